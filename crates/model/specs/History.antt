@@ -1,0 +1,90 @@
+-- Document 01, "History": made from the plan and the calls' arguments alone, it reads nothing from a record.
+use mathlib.Core.Bool.{Bool, true, false, cond}
+use mathlib.Core.List.{List, [], _∷_, _++_}
+use Prim.Native.Nat.{ℕ}
+use Rattle.model.specs.Questions.{Answer, by-answer}
+use Rattle.model.specs.Plan.{Plan}
+use Rattle.model.specs.Machine.{State, allotment, fresh, grant, tick, ticked, closes, efficient-now, satisfied-now, Cycle, works-on, mugs-deque, steals-from, steals-nothing, cycles-made, Call, grants, ticks, call-answer}
+
+-- a closed quantum (round): its wanted and granted counts, "and, once closed, efficient or not and satisfied or not"
+pub record ClosedQuantum : Type 0 where
+  pub wanted : ℕ
+  pub granted : ℕ
+  pub was-efficient : Bool
+  pub was-satisfied : Bool
+
+-- the quantum that is not closed: none, or its wanted and granted counts. The one in which a job finishes never closes.
+pub data CurrentQuantum : Type 0 where
+  none : CurrentQuantum
+  begun-with : ℕ → ℕ → CurrentQuantum
+
+-- the job's state, and what only the past knows
+pub record History : Type 0 where
+  pub state : State
+  pub closed-quanta : List ClosedQuantum  -- in the order in which they began
+  pub current : CurrentQuantum
+  pub made : List Cycle  -- every worker's cycle so far, in order
+
+-- "It starts with no piece worked, no line, no orphan, no round, wanted 1, granted 0 and all other counts 0."
+unfoldable pub beginning : Plan → History
+beginning plan = record { state = fresh plan; closed-quanta = []; current = none; made = [] }
+
+unfoldable pub history-grant : ℕ → History → History
+history-grant g h =
+    record {
+      state = grant g (h .state);
+      closed-quanta = h .closed-quanta;
+      current = begun-with (h .state .desire) g;
+      made = h .made;
+    }
+
+-- the verdict on the quantum that a tick closes
+abbrev pub verdict : Plan → CurrentQuantum → State → List ClosedQuantum
+verdict plan none s = []
+verdict plan (begun-with wanted granted) s =
+    record { wanted = wanted; granted = granted; was-efficient = efficient-now plan s; was-satisfied = satisfied-now s } ∷ []
+
+unfoldable pub history-tick : Plan → List ℕ → History → History
+history-tick plan choices h =
+    let after = ticked plan choices (h .state) in
+    record {
+      state = tick plan choices (h .state);
+      closed-quanta = cond (closes plan after) (h .closed-quanta ++ verdict plan (h .current) after) (h .closed-quanta);
+      current = cond (closes plan after) none (h .current);
+      made = h .made ++ cycles-made plan 0 choices (h .state .execution);
+    }
+
+-- "A call moves it by Grant, Tick and Round's end"
+abbrev pub history-moved : Plan → Call → History → History
+history-moved plan (grants g) h = history-grant g h
+history-moved plan (ticks choices) h = history-tick plan choices h
+
+-- "one that a question turns down, asked of the history, leaves it as it was"
+unfoldable pub history-step : Plan → Call → History → History
+history-step plan call h = by-answer (call-answer call (h .state)) (history-moved plan call h) h
+
+unfoldable pub run-from : Plan → History → List Call → History
+run-from plan h [] = h
+run-from plan h (call ∷ calls) = run-from plan (history-step plan call h) calls
+
+-- the history of a list of calls
+unfoldable pub run : Plan → List Call → History
+run plan calls = run-from plan (beginning plan) calls
+
+-- W and M, "the history's work and mug counts"
+abbrev pub work-count : History → ℕ
+work-count h = h .state .execution .counts .works .work
+
+abbrev pub mug-count : History → ℕ
+mug-count h = h .state .execution .counts .mugs .mug
+
+-- the tasks that the cycles worked, in the order in which they were worked
+unfoldable pub tasks-in : List Cycle → List ℕ
+tasks-in [] = []
+tasks-in (works-on t ∷ made) = t ∷ tasks-in made
+tasks-in (mugs-deque d ∷ made) = tasks-in made
+tasks-in (steals-from v ∷ made) = tasks-in made
+tasks-in (steals-nothing ∷ made) = tasks-in made
+
+abbrev pub work-order : History → List ℕ
+work-order h = tasks-in (h .made)

@@ -1,0 +1,396 @@
+-- Document 01, "Grant", "Tick" and "Round's end": what a job is, and how a grant and a tick move it.
+use mathlib.Core.Bool.{Bool, true, false, cond, not, _&&_}
+use mathlib.Core.List.{List, [], _∷_, _++_, tail}
+use Prim.Native.Nat.{ℕ, zero, suc, _+_, _-_, _*_, _/_, _^_}
+use lib.Dec.{leb, ltb, eqb}
+use lib.ListN.{length, getD, take, drop, set, replicate}
+use Rattle.model.specs.Tests.{every, keep, is-empty, count-set, all-set}
+use Rattle.model.specs.Questions.{Question, ask, Answer, first-no, by-answer}
+use Rattle.model.specs.Plan.{Plan, tasks, successors-of, predecessors}
+
+-- ---- what a job is
+
+-- "Work ticks, mug ticks and steal ticks are three counts, and no total of one kind takes a tick of another": three types
+pub record WorkCycles : Type 0 where
+  pub work : ℕ
+
+pub record MugCycles : Type 0 where
+  pub mug : ℕ
+
+pub record StealCycles : Type 0 where
+  pub steal : ℕ
+
+pub record Counts : Type 0 where
+  pub works : WorkCycles  -- work ticks
+  pub mugs : MugCycles  -- mug ticks
+  pub steals : StealCycles  -- steal ticks, successful or not
+  pub successes : ℕ  -- successful steals
+  pub usage : ℕ  -- u: work plus mug ticks of the quantum last opened (nonsteal usage)
+
+-- what the workers' cycles move
+pub record Execution : Type 0 where
+  pub worked : List Bool  -- of each task: it is worked
+  pub deques : List (List ℕ)  -- of each granted worker its deque (line) of ready tasks, front first
+  pub muggable : List (List ℕ)  -- the muggable deques (orphans), oldest first
+  pub counts : Counts
+
+-- the open quantum (round)
+pub data Quantum : Type 0 where
+  idle : Quantum  -- none is open
+  opened : ℕ → Quantum  -- one is open, and has had so many ticks
+
+pub record State : Type 0 where
+  pub execution : Execution
+  pub started : Bool  -- a count above 0 was granted
+  pub desire : ℕ  -- the wanted count
+  pub quantum : Quantum
+  pub begun : ℕ  -- how many quanta (rounds) have begun
+
+-- the granted count: each granted worker has a deque
+abbrev pub allotment : State → ℕ
+allotment s = length (s .execution .deques)
+
+abbrev pub deque-of : Execution → ℕ → List ℕ
+deque-of e w = getD (e .deques) w []
+
+-- "finished": all N are worked
+unfoldable pub finished : Execution → Bool
+finished e = all-set (e .worked)
+
+abbrev pub no-counts : Counts
+no-counts =
+    record {
+      works = record { work = 0 };
+      mugs = record { mug = 0 };
+      steals = record { steal = 0 };
+      successes = 0;
+      usage = 0;
+    }
+
+-- "A fresh job wants 1 and has 0 granted."
+unfoldable pub fresh : Plan → State
+fresh plan =
+    record {
+      execution = record { worked = replicate (tasks plan) false; deques = []; muggable = []; counts = no-counts };
+      started = false;
+      desire = 1;
+      quantum = idle;
+      begun = 0;
+    }
+
+-- ---- Grant
+
+-- "Have fewer than 65,535 rounds begun?"
+abbrev pub quantum-limit : ℕ
+quantum-limit = 65535
+
+abbrev pub no-quantum-open : Quantum → Bool
+no-quantum-open idle = true
+no-quantum-open (opened ticks) = false
+
+-- "A grant of g", 11 to 14
+unfoldable pub grant-questions : ℕ → State → List Question
+grant-questions g s =
+    ask (not (finished (s .execution))) 11
+    ∷ ask (no-quantum-open (s .quantum)) 12
+    ∷ ask (ltb (s .begun) quantum-limit) 13
+    ∷ ask (leb g (s .desire)) 14
+    ∷ []
+
+-- "If g exceeds the last granted count, the new workers have empty lines."
+unfoldable pub kept-deques : ℕ → List (List ℕ) → List (List ℕ)
+kept-deques g deques = take g deques ++ replicate (g - length deques) []
+
+-- the order in which one grant's withdrawn deques join the muggable ones: "in rising worker order"
+abbrev pub withdrawal-order : List (List ℕ) → List (List ℕ)
+withdrawal-order deques = deques
+
+-- "workers g and up are withdrawn; their non-empty lines join .. and empty ones vanish"
+unfoldable pub withdrawn-deques : ℕ → List (List ℕ) → List (List ℕ)
+withdrawn-deques g deques = withdrawal-order (keep (λ d. not (is-empty d)) (drop g deques))
+
+-- worker 0's deque with task 0 in front
+abbrev pub place-first-task : List (List ℕ) → List (List ℕ)
+place-first-task [] = []
+place-first-task (d ∷ ds) = (0 ∷ d) ∷ ds
+
+-- "The first grant above 0 puts piece 0 in worker 0's line."
+unfoldable pub first-task-placed : Bool → List (List ℕ) → List (List ℕ)
+first-task-placed started deques = cond started deques (place-first-task deques)
+
+abbrev pub with-usage-0 : Counts → Counts
+with-usage-0 c =
+    record { works = c .works; mugs = c .mugs; steals = c .steals; successes = c .successes; usage = 0 }
+
+-- what an accepted grant of g does. "Every accepted grant, 0 too, opens a round."
+unfoldable pub grant : ℕ → State → State
+grant g s =
+    record {
+      execution =
+          record {
+            worked = s .execution .worked;
+            deques = first-task-placed (s .started) (kept-deques g (s .execution .deques));
+            muggable = s .execution .muggable ++ withdrawn-deques g (s .execution .deques);
+            counts = with-usage-0 (s .execution .counts);
+          };
+      started = cond (eqb g 0) (s .started) true;
+      desire = s .desire;
+      quantum = opened 0;
+      begun = suc (s .begun);
+    }
+
+-- ---- Tick
+
+-- "A tick", 11 and 15 to 17; 17 asks every choice, "read or not"
+unfoldable pub tick-questions : List ℕ → State → List Question
+tick-questions choices s =
+    ask (not (finished (s .execution))) 11
+    ∷ ask (not (no-quantum-open (s .quantum))) 15
+    ∷ ask (eqb (length choices) (allotment s)) 16
+    ∷ ask (every (λ choice. ltb choice (allotment s)) choices) 17
+    ∷ []
+
+-- what one worker does in its cycle
+pub data Cycle : Type 0 where
+  works-on : ℕ → Cycle  -- a work tick: the front task of its deque
+  mugs-deque : List ℕ → Cycle  -- a mug tick: the oldest muggable deque
+  steals-from : ℕ → Cycle  -- a steal tick, successful: the worker that is robbed
+  steals-nothing : Cycle  -- a steal tick in which nothing moves
+
+-- "If the chosen worker's line has two or more pieces"
+abbrev pub steal-cycle : ℕ → List ℕ → Cycle
+steal-cycle choice victim = cond (leb 2 (length victim)) (steals-from choice) steals-nothing
+
+-- by the worker's own deque, then the muggable ones, then the chosen worker's deque
+abbrev pub decided : List ℕ → List (List ℕ) → ℕ → List ℕ → Cycle
+decided (front ∷ rest) muggable choice victim = works-on front
+decided [] (oldest ∷ others) choice victim = mugs-deque oldest
+decided [] [] choice victim = steal-cycle choice victim
+
+unfoldable pub cycle-of : ℕ → ℕ → Execution → Cycle
+cycle-of w choice e = decided (deque-of e w) (e .muggable) choice (deque-of e choice)
+
+-- "A piece is ready when every piece before it is worked."
+unfoldable pub ready : Plan → List Bool → ℕ → Bool
+ready plan worked t = every (λ p. getD worked p false) (predecessors plan t)
+
+-- a work tick completes its task
+abbrev pub completed : ℕ → List Bool → List Bool
+completed t worked = set worked t true
+
+-- "its followers that became ready", in the order of their fields
+unfoldable pub released : Plan → List Bool → ℕ → List ℕ
+released plan worked t = keep (ready plan worked) (successors-of plan t)
+
+-- how many tasks a steal takes from the back of a deque of n
+abbrev pub stolen-count : ℕ → ℕ
+stolen-count n = 1
+
+-- what a steal leaves, and what it takes
+unfoldable pub left-by-steal : List ℕ → List ℕ
+left-by-steal deque = take (length deque - stolen-count (length deque)) deque
+
+unfoldable pub taken-by-steal : List ℕ → List ℕ
+taken-by-steal deque = drop (length deque - stolen-count (length deque)) deque
+
+abbrev pub counted-work : Counts → Counts
+counted-work c =
+    record {
+      works = record { work = suc (c .works .work) };
+      mugs = c .mugs;
+      steals = c .steals;
+      successes = c .successes;
+      usage = suc (c .usage);
+    }
+
+abbrev pub counted-mug : Counts → Counts
+counted-mug c =
+    record {
+      works = c .works;
+      mugs = record { mug = suc (c .mugs .mug) };
+      steals = c .steals;
+      successes = c .successes;
+      usage = suc (c .usage);
+    }
+
+-- a steal tick, with 1 success or 0
+abbrev pub counted-steal : ℕ → Counts → Counts
+counted-steal success c =
+    record {
+      works = c .works;
+      mugs = c .mugs;
+      steals = record { steal = suc (c .steals .steal) };
+      successes = success + c .successes;
+      usage = c .usage;
+    }
+
+-- "The front piece is worked and leaves. Of its followers that became ready, the second goes to the front, then the first before it."
+unfoldable pub work-cycle : Plan → ℕ → ℕ → Execution → Execution
+work-cycle plan w t e =
+    record {
+      worked = completed t (e .worked);
+      deques = set (e .deques) w (released plan (completed t (e .worked)) t ++ tail (deque-of e w));
+      muggable = e .muggable;
+      counts = counted-work (e .counts);
+    }
+
+-- "The oldest orphan becomes this worker's line, whole."
+unfoldable pub mug-cycle : ℕ → List ℕ → Execution → Execution
+mug-cycle w oldest e =
+    record {
+      worked = e .worked;
+      deques = set (e .deques) w oldest;
+      muggable = tail (e .muggable);
+      counts = counted-mug (e .counts);
+    }
+
+-- "its back piece becomes the thief's line, a successful steal"
+unfoldable pub successful-steal : ℕ → ℕ → Execution → Execution
+successful-steal w victim e =
+    record {
+      worked = e .worked;
+      deques = set (set (e .deques) victim (left-by-steal (deque-of e victim))) w (taken-by-steal (deque-of e victim));
+      muggable = e .muggable;
+      counts = counted-steal 1 (e .counts);
+    }
+
+-- "If not, nothing moves."
+unfoldable pub failed-steal : Execution → Execution
+failed-steal e =
+    record { worked = e .worked; deques = e .deques; muggable = e .muggable; counts = counted-steal 0 (e .counts) }
+
+abbrev pub performed : Plan → ℕ → Cycle → Execution → Execution
+performed plan w (works-on t) e = work-cycle plan w t e
+performed plan w (mugs-deque oldest) e = mug-cycle w oldest e
+performed plan w (steals-from victim) e = successful-steal w victim e
+performed plan w steals-nothing e = failed-steal e
+
+-- one cycle of worker w
+unfoldable pub cycle : Plan → ℕ → ℕ → Execution → Execution
+cycle plan w choice e = performed plan w (cycle-of w choice e) e
+
+-- what the workers do that come after the one that finished the job: "later workers take no cycle"
+abbrev pub after-the-finish : List ℕ → Execution → Execution
+after-the-finish choices e = e
+
+-- "Workers act in number order, one cycle each", from worker w on, a choice each; "the job is finished and the tick ends there"
+unfoldable pub cycles : Plan → ℕ → List ℕ → Execution → Execution
+cycles plan w [] e = e
+cycles plan w (choice ∷ choices) e =
+    let onward = cycles plan (suc w) choices (cycle plan w choice e) in
+    cond (finished e) (after-the-finish (choice ∷ choices) e) onward
+
+-- the same cycles, as what each worker did
+unfoldable pub cycles-made : Plan → ℕ → List ℕ → Execution → List Cycle
+cycles-made plan w [] e = []
+cycles-made plan w (choice ∷ choices) e =
+    let onward = cycle-of w choice e ∷ cycles-made plan (suc w) choices (cycle plan w choice e) in
+    cond (finished e) [] onward
+
+abbrev pub ticks-of : Quantum → ℕ
+ticks-of idle = 0
+ticks-of (opened ticks) = ticks
+
+-- the state after the workers' cycles, with the tick counted
+unfoldable pub ticked : Plan → List ℕ → State → State
+ticked plan choices s =
+    record {
+      execution = cycles plan 0 choices (s .execution);
+      started = s .started;
+      desire = s .desire;
+      quantum = opened (suc (ticks-of (s .quantum)));
+      begun = s .begun;
+    }
+
+-- ---- Round's end
+
+-- "It is efficient when 100 × u is at least D × L × g"
+unfoldable pub efficient : Plan → ℕ → ℕ → Bool
+efficient plan usage granted = leb (plan .utilization * plan .quantum-length * granted) (100 * usage)
+
+-- "satisfied when g equals the wanted count"
+unfoldable pub satisfied : ℕ → ℕ → Bool
+satisfied desire granted = eqb granted desire
+
+-- no desire exceeds this
+abbrev pub most-workers : ℕ
+most-workers = 64
+
+-- "wanted is divided by R"
+abbrev pub lowered : Plan → ℕ → ℕ
+lowered plan desire = desire / plan .responsiveness
+
+-- "multiplied by R, unless that exceeds 64"
+abbrev pub raised : Plan → ℕ → ℕ
+raised plan desire = cond (leb (desire * plan .responsiveness) most-workers) (desire * plan .responsiveness) desire
+
+-- the three cases: inefficient; efficient and satisfied; efficient and deprived
+unfoldable pub next-desire : Plan → ℕ → Bool → Bool → ℕ
+next-desire plan desire false satisfied = lowered plan desire
+next-desire plan desire true true = raised plan desire
+next-desire plan desire true false = desire
+
+-- "After L ticks of an unfinished job the round closes."
+unfoldable pub closes : Plan → State → Bool
+closes plan s = not (finished (s .execution)) && eqb (ticks-of (s .quantum)) (plan .quantum-length)
+
+abbrev pub efficient-now : Plan → State → Bool
+efficient-now plan s = efficient plan (s .execution .counts .usage) (allotment s)
+
+abbrev pub satisfied-now : State → Bool
+satisfied-now s = satisfied (s .desire) (allotment s)
+
+unfoldable pub closed : Plan → State → State
+closed plan s =
+    record {
+      execution = s .execution;
+      started = s .started;
+      desire = next-desire plan (s .desire) (efficient-now plan s) (satisfied-now s);
+      quantum = idle;
+      begun = s .begun;
+    }
+
+-- what an accepted tick does
+unfoldable pub tick : Plan → List ℕ → State → State
+tick plan choices s = cond (closes plan (ticked plan choices s)) (closed plan (ticked plan choices s)) (ticked plan choices s)
+
+-- "So it stops at the largest powers of R up to 64, for R = 2 to 7": the table of the six top desires, from R = 2
+unfoldable pub top-desires : List ℕ
+top-desires = 64 ∷ 27 ∷ 64 ∷ 25 ∷ 36 ∷ 49 ∷ []
+
+-- the desire after k raises
+abbrev pub desire-at : ℕ → ℕ → ℕ
+desire-at responsiveness k = responsiveness ^ k
+
+-- ---- a call
+
+-- the calls' arguments: "a grant's count or a tick's choices"
+pub data Call : Type 0 where
+  grants : ℕ → Call
+  ticks : List ℕ → Call
+
+abbrev pub call-questions : Call → State → List Question
+call-questions (grants g) s = grant-questions g s
+call-questions (ticks choices) s = tick-questions choices s
+
+unfoldable pub call-answer : Call → State → Answer
+call-answer call s = first-no (call-questions call s)
+
+-- what an accepted call does
+abbrev pub moved : Plan → Call → State → State
+moved plan (grants g) s = grant g s
+moved plan (ticks choices) s = tick plan choices s
+
+-- "11 to 17 return the number and the record unchanged"
+unfoldable pub step : Plan → Call → State → State
+step plan call s = by-answer (call-answer call s) (moved plan call s) s
+
+-- ---- Status
+
+-- how many tasks are worked
+abbrev pub tasks-worked : State → ℕ
+tasks-worked s = count-set (s .execution .worked)
+
+-- "Status: 3 finished; else 0 if nothing above 0 was ever granted; else 2, held, if the last granted count is 0; else 1, running."
+unfoldable pub status : State → ℕ
+status s = cond (finished (s .execution)) 3 (cond (not (s .started)) 0 (cond (eqb (allotment s) 0) 2 1))

@@ -1,0 +1,148 @@
+-- Document 01, "The plan's bits" and "Questions": plan bytes, and the plan that they give.
+use mathlib.Core.Bool.{Bool, true, false, not, _&&_, _||_, Bool·beq}
+use mathlib.Core.List.{List, [], _∷_, _++_, map, flatMap}
+use Prim.Native.Nat.{ℕ, zero, suc, _+_, _*_, _/_, _%_, _^_}
+use lib.Dec.{leb, ltb, eqb}
+use lib.ListN.{length, getD, drop}
+use Rattle.model.specs.Tests.{below, every, keep, is-empty, member}
+use Rattle.model.specs.Questions.{Question, ask, Answer, first-no}
+
+-- ---- the plan
+
+-- A plan: tasks (document 01: pieces) numbered from 0, each with its successors (followers) in the order of their fields.
+pub record Plan : Type 0 where
+  pub responsiveness : ℕ  -- R
+  pub utilization : ℕ  -- D, in percent
+  pub quantum-length : ℕ  -- L, ticks of a quantum (round)
+  pub successors : List (List ℕ)  -- of each task, by its number
+
+-- N, the number of tasks
+abbrev pub tasks : Plan → ℕ
+tasks plan = length (plan .successors)
+
+-- the successors (followers) of the task t
+abbrev pub successors-of : Plan → ℕ → List ℕ
+successors-of plan t = getD (plan .successors) t []
+
+-- "A piece is before its own followers and before no other piece": the predecessors of the task t
+unfoldable pub predecessors : Plan → ℕ → List ℕ
+predecessors plan t = keep (λ p. member t (successors-of plan p)) (below (tasks plan))
+
+-- ---- the plan's bits
+
+-- the number that n bytes make, from the one at a place on, the first byte the most significant
+unfoldable pub number : List ℕ → ℕ → ℕ → ℕ
+number bytes place zero = 0
+number bytes place (suc n) = number bytes place n * 256 + getD bytes (place + n) 0
+
+-- the unsigned field of so many bits that has so many bits below it
+abbrev pub field : ℕ → ℕ → ℕ → ℕ
+field bits under n = n / 2 ^ under % 2 ^ bits
+
+-- "Header, 40 bits": five fields, most significant first
+unfoldable pub header : List ℕ → ℕ
+header bytes = number bytes 0 5
+
+abbrev pub form-field : List ℕ → ℕ
+form-field bytes = field 4 36 (header bytes)
+
+abbrev pub responsiveness-field : List ℕ → ℕ
+responsiveness-field bytes = field 3 33 (header bytes)
+
+abbrev pub utilization-field : List ℕ → ℕ
+utilization-field bytes = field 7 26 (header bytes)
+
+abbrev pub quantum-length-field : List ℕ → ℕ
+quantum-length-field bytes = field 16 10 (header bytes)
+
+-- "number of pieces N less one, 10"
+abbrev pub task-count : List ℕ → ℕ
+task-count bytes = field 10 0 (header bytes) + 1
+
+-- "Then 24 bits a piece": three fields, most significant first
+unfoldable pub task-bits : List ℕ → ℕ → ℕ
+task-bits bytes t = number bytes (5 + 3 * t) 3
+
+abbrev pub count-field : List ℕ → ℕ → ℕ
+count-field bytes t = field 2 22 (task-bits bytes t)
+
+abbrev pub first-field : List ℕ → ℕ → ℕ
+first-field bytes t = field 11 11 (task-bits bytes t)
+
+abbrev pub second-field : List ℕ → ℕ → ℕ
+second-field bytes t = field 11 0 (task-bits bytes t)
+
+-- the fields that a successor count uses: none, the first, or both
+abbrev pub used-fields : ℕ → ℕ → ℕ → List ℕ
+used-fields zero first second = []
+used-fields (suc zero) first second = first ∷ []
+used-fields (suc (suc more)) first second = first ∷ second ∷ []
+
+unfoldable pub successor-fields : List ℕ → ℕ → List ℕ
+successor-fields bytes t = used-fields (count-field bytes t) (first-field bytes t) (second-field bytes t)
+
+-- the plan that the bytes give
+unfoldable pub plan-of : List ℕ → Plan
+plan-of bytes =
+    record {
+      responsiveness = responsiveness-field bytes;
+      utilization = utilization-field bytes;
+      quantum-length = quantum-length-field bytes;
+      successors = map (successor-fields bytes) (below (task-count bytes));
+    }
+
+-- ---- the questions
+
+-- 7: "is the follower count 0, 1 or 2, with unused fields 0?"
+unfoldable pub fields-ok : ℕ → ℕ → ℕ → Bool
+fields-ok zero first second = eqb first 0 && eqb second 0
+fields-ok (suc zero) first second = eqb second 0
+fields-ok (suc (suc zero)) first second = true
+fields-ok (suc (suc (suc more))) first second = false
+
+-- the first two are different
+unfoldable pub two-differ : List ℕ → Bool
+two-differ [] = true
+two-differ (x ∷ []) = true
+two-differ (x ∷ (y ∷ rest)) = not (eqb x y)
+
+-- 8: "Is each follower above its own piece's number and below N, and are two followers different?"
+unfoldable pub targets-ok : ℕ → ℕ → List ℕ → Bool
+targets-ok n t successors = every (λ s. ltb t s && ltb s n) successors && two-differ successors
+
+-- both questions of one piece; those of a piece come before those of the next
+unfoldable pub task-questions : List ℕ → ℕ → List Question
+task-questions bytes t =
+    ask (fields-ok (count-field bytes t) (first-field bytes t) (second-field bytes t)) 7
+    ∷ ask (targets-ok (task-count bytes) t (successor-fields bytes t)) 8
+    ∷ []
+
+-- 9: "Has each piece from 1 up one or two pieces before it?"
+unfoldable pub all-preceded : Plan → Bool
+all-preceded plan =
+    every (λ t. leb 1 (length (predecessors plan t)) && leb (length (predecessors plan t)) 2) (drop 1 (below (tasks plan)))
+
+-- 10: "Is piece N − 1 the only one without followers?"
+unfoldable pub one-exit : Plan → Bool
+one-exit plan = every (λ t. Bool·beq (is-empty (successors-of plan t)) (eqb (t + 1) (tasks plan))) (below (tasks plan))
+
+unfoldable pub header-questions : List ℕ → List Question
+header-questions bytes =
+    ask (leb 5 (length bytes)) 1
+    ∷ ask (eqb (form-field bytes) 1) 2
+    ∷ ask (leb 2 (responsiveness-field bytes)) 3
+    ∷ ask (leb 1 (utilization-field bytes) && leb (utilization-field bytes) 100) 4
+    ∷ ask (leb 1 (quantum-length-field bytes)) 5
+    ∷ ask (eqb (length bytes) (5 + 3 * task-count bytes)) 6
+    ∷ []
+
+unfoldable pub graph-questions : Plan → List Question
+graph-questions plan = ask (all-preceded plan) 9 ∷ ask (one-exit plan) 10 ∷ []
+
+-- "A plan, in this order"
+unfoldable pub plan-questions : List ℕ → List Question
+plan-questions bytes =
+    header-questions bytes ++ flatMap (task-questions bytes) (below (task-count bytes)) ++ graph-questions (plan-of bytes)
+
+unfoldable pub plan-answer : List ℕ → Answer
+plan-answer bytes = first-no (plan-questions bytes)

@@ -1,0 +1,99 @@
+-- The demands as statements over a plan and a whole list of calls, refused ones included. They are proved in the crate `laws`.
+-- Each is for any responsiveness R of 2 or more: nothing here says that R is at most 7.
+use mathlib.Core.Path.{_≡_}
+use mathlib.Core.Bool.{Bool, true, false}
+use mathlib.Core.Logic.{_↔_}
+use mathlib.Core.List.{List, [], _∷_, _++_, List·Memᴰ}
+use Prim.Native.Nat.{ℕ, _+_, _*_, _-_, _≤_, _<_}
+use lib.ListN.{length, getD}
+use Rattle.model.specs.Questions.{Answer, accepted}
+use Rattle.model.specs.Plan.{Plan, tasks, successors-of, predecessors}
+use Rattle.model.specs.Machine.{Call, ticks, call-answer, allotment, status, desire-at, most-workers, Cycle}
+use Rattle.model.specs.History.{ClosedQuantum, History, run, history-step, work-count, mug-count, work-order}
+
+-- ---- what an accepted plan is: the plan rules, as facts about the plan
+
+pub record SoundPlan (plan : Plan) : Type 0 where
+  pub responsive : 2 ≤ plan .responsiveness
+  pub utilized : 1 ≤ plan .utilization
+  pub percent : plan .utilization ≤ 100
+  pub timed : 1 ≤ plan .quantum-length
+  pub some-task : 1 ≤ tasks plan
+  -- at most two successors, each above its task's number and below N, and different
+  pub two-at-most : (t : ℕ) → t < tasks plan → length (successors-of plan t) ≤ 2
+  pub upward : (t s : ℕ) → t < tasks plan → List·Memᴰ s (successors-of plan t) → t < s
+  pub inside : (t s : ℕ) → t < tasks plan → List·Memᴰ s (successors-of plan t) → s < tasks plan
+  pub apart : (t a b : ℕ) → t < tasks plan → successors-of plan t ≡ a ∷ b ∷ [] → a ≡ b → ⊥
+  -- every task from 1 up has one or two predecessors
+  pub preceded : (t : ℕ) → 1 ≤ t → t < tasks plan → 1 ≤ length (predecessors plan t)
+  pub preceded-twice : (t : ℕ) → 1 ≤ t → t < tasks plan → length (predecessors plan t) ≤ 2
+  -- task N − 1 is the only one without successors
+  pub exit-last : (t : ℕ) → t < tasks plan → (successors-of plan t ≡ []) ↔ (t + 1 ≡ tasks plan)
+
+-- ---- demand 3
+
+-- M × L × D ≤ 100 × (1 + R) × (W + M)
+abbrev pub MugLimit : Plan → History → Type 0
+MugLimit plan h =
+    mug-count h * plan .quantum-length * plan .utilization ≤ 100 * (1 + plan .responsiveness) * (work-count h + mug-count h)
+
+abbrev pub no-quantum : ClosedQuantum
+no-quantum = record { wanted = 0; granted = 0; was-efficient = true; was-satisfied = false }
+
+-- the closed quantum of that number, counted from 0 in the order in which they began
+abbrev pub nth : List ClosedQuantum → ℕ → ClosedQuantum
+nth quanta i = getD quanta i no-quantum
+
+abbrev pub Inefficient : List ClosedQuantum → ℕ → Type 0
+Inefficient quanta i = (i < length quanta) × (nth quanta i .was-efficient ≡ false)
+
+-- "each closed inefficient round has an earlier closed, efficient and satisfied round whose wanted count times R is its own, and no two
+-- share one"
+pub record Pairing (plan : Plan) (quanta : List ClosedQuantum) : Type 0 where
+  pub partner : ℕ → ℕ
+  pub earlier : (i : ℕ) → Inefficient quanta i → partner i < i
+  pub efficient : (i : ℕ) → Inefficient quanta i → nth quanta (partner i) .was-efficient ≡ true
+  pub satisfied : (i : ℕ) → Inefficient quanta i → nth quanta (partner i) .was-satisfied ≡ true
+  pub wanted : (i : ℕ) → Inefficient quanta i → nth quanta (partner i) .wanted * plan .responsiveness ≡ nth quanta i .wanted
+  pub unshared : (i j : ℕ) → Inefficient quanta i → Inefficient quanta j → partner i ≡ partner j → i ≡ j
+
+pub record Demand3 (plan : Plan) (calls : List Call) : Type 0 where
+  pub limit : MugLimit plan (run plan calls)
+  pub pairing : Pairing plan (run plan calls .closed-quanta)
+
+-- where L × D > 100 × (1 + R) the limit bounds the mugs by the work alone
+abbrev pub MugBound : Plan → History → Type 0
+MugBound plan h =
+    100 * (1 + plan .responsiveness) < plan .quantum-length * plan .utilization →
+    mug-count h * (plan .quantum-length * plan .utilization - 100 * (1 + plan .responsiveness))
+    ≤ 100 * (1 + plan .responsiveness) * work-count h
+
+-- ---- its companions
+
+-- "Each piece is worked at most once, after all before it"
+pub record OnceAndInOrder (plan : Plan) (h : History) : Type 0 where
+  pub once : (i j : ℕ) → i < length (work-order h) → j < length (work-order h) → getD (work-order h) i 0 ≡ getD (work-order h) j 0 → i ≡ j
+  pub in-order : (i p : ℕ) → i < length (work-order h) → List·Memᴰ p (predecessors plan (getD (work-order h) i 0)) →
+      (j : ℕ) × (j < i) × (getD (work-order h) j 0 ≡ p)
+  -- the tasks that the state shows as worked are those of the order
+  pub marked : (t : ℕ) → (getD (h .state .execution .worked) t false ≡ true) ↔ List·Memᴰ t (work-order h)
+
+-- "finished is shown when all pieces are worked and never otherwise"
+abbrev pub FinishedExactly : Plan → History → Type 0
+FinishedExactly plan h = (status (h .state) ≡ 3) ↔ ((t : ℕ) → t < tasks plan → getD (h .state .execution .worked) t false ≡ true)
+
+-- "While a job is unfinished, each tick with a worker granted does at least one work or mug tick."
+abbrev pub Progress : Plan → History → Type 0
+Progress plan h =
+    (choices : List ℕ) → call-answer (ticks choices) (h .state) ≡ accepted → 1 ≤ allotment (h .state) →
+    work-count h + mug-count h < work-count (history-step plan (ticks choices) h) + mug-count (history-step plan (ticks choices) h)
+
+-- "Wanted 1 is never met by an inefficient round."
+abbrev pub OneIsEfficient : List ClosedQuantum → Type 0
+OneIsEfficient quanta = (i : ℕ) → Inefficient quanta i → 1 < nth quanta i .wanted
+
+-- the wanted count is a power of R, at most 64; so the divisions are exact
+pub record DesireIsPower (plan : Plan) (h : History) : Type 0 where
+  pub power : ℕ
+  pub is-power : h .state .desire ≡ desire-at (plan .responsiveness) power
+  pub at-most : h .state .desire ≤ most-workers
