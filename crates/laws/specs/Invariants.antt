@@ -1,0 +1,44 @@
+-- What every worker's cycle keeps: where the tasks stand, and how many deques there are.
+use mathlib.Core.Path.{_≡_}
+use mathlib.Core.Bool.{Bool, true, false, cond, not, _&&_}
+use mathlib.Core.List.{List, [], _∷_}
+use Prim.Native.Nat.{ℕ, suc, _+_, _*_, _≤_}
+use lib.Dec.{eqb, ltb}
+use lib.ListN.{length, getD}
+use Rattle.model.specs.Tests.{every, is-empty, count-set}
+use Rattle.model.specs.Plan.{Plan, tasks}
+use Rattle.model.specs.Machine.{Execution, ready}
+
+-- how often the task t stands in a deque
+unfoldable pub occurrences : ℕ → List ℕ → ℕ
+occurrences t [] = 0
+occurrences t (x ∷ xs) = cond (eqb t x) 1 0 + occurrences t xs
+
+-- how often it stands in some deques
+unfoldable pub in-deques : ℕ → List (List ℕ) → ℕ
+in-deques t [] = 0
+in-deques t (d ∷ ds) = occurrences t d + in-deques t ds
+
+-- how many deques are not empty
+unfoldable pub busy : List (List ℕ) → ℕ
+busy [] = 0
+busy (d ∷ ds) = cond (is-empty d) 0 1 + busy ds
+
+-- the task is one of the plan, ready and not worked
+unfoldable pub waiting-work : Plan → List Bool → ℕ → Bool
+waiting-work plan worked t = ltb t (tasks plan) && (ready plan worked t && not (getD worked t false))
+
+-- "the tasks in deques and muggable deques are exactly the ready unworked ones, each once; a muggable deque is never empty"
+pub record Placed (plan : Plan) (e : Execution) : Type 0 where
+  pub flags : length (e .worked) ≡ tasks plan
+  pub once : (t : ℕ) → in-deques t (e .deques) + in-deques t (e .muggable) ≡ cond (waiting-work plan (e .worked) t) 1 0
+  pub filled : every (λ d. not (is-empty d)) (e .muggable) ≡ true
+
+-- the non-empty deques and the muggable ones together number at most so many
+pub record Bounded (most : ℕ) (e : Execution) : Type 0 where
+  pub workers : length (e .deques) ≤ most
+  pub lines : busy (e .deques) + length (e .muggable) ≤ most
+
+-- work counts the tasks that are worked
+pub record Tallied (e : Execution) : Type 0 where
+  pub work-is-tasks : e .counts .works .work ≡ count-set (e .worked)

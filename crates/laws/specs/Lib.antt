@@ -1,0 +1,2 @@
+-- What holds of every execution that grants and ticks reach: statements only. The proofs are in proofs/.
+pub mod Invariants
