@@ -4,19 +4,21 @@ use mathlib.Core.Bool.{Bool, true, false, cond, not, _&&_, toNat}
 use mathlib.Core.List.{List, [], _∷_, _++_, map, flatMap}
 use Prim.Native.Nat.{ℕ, zero, suc, _+_, _*_, _-_, _/_, _%_, _^_}
 use lib.Dec.{leb, ltb, eqb}
-use lib.ListN.{length, take, drop, replicate}
+use lib.ListN.{length, getD, take, drop, replicate}
 use Rattle.model.specs.Tests.{below, every, keep, member, count-set, all-set}
 use Rattle.model.specs.Questions.{Answer, answer-number, first-no}
 use Rattle.model.specs.Plan
-use Rattle.model.specs.Plan.{plan-of, plan-answer}
+use Rattle.model.specs.Plan.{Plan, plan-of, plan-answer, form-field, responsiveness-field, utilization-field, quantum-length-field, task-count, count-field, first-field, second-field}
 use Rattle.model.specs.Machine
-use Rattle.model.specs.Machine.{State, Call, grants, ticks, call-answer, step, fresh, efficient, next-desire, top-desires}
+use Rattle.model.specs.Machine.{State, Call, grants, ticks, call-answer, step, fresh, status, grant-questions, efficient, next-desire, top-desires, desire-at, most-workers}
+use Rattle.model.specs.History
+use Rattle.model.specs.History.{ClosedQuantum, CurrentQuantum, none, begun-with, run, work-order}
 use Rattle.model.specs.Log
 use Rattle.model.specs.Log.{Ran, run-log, run-calls, log-answer}
 use Rattle.model.specs.Label
 use Rattle.model.specs.Label.{label, label-answer, Stretch, bytes-of}
 use Rattle.model.specs.Counters
-use Rattle.model.specs.Counters.{counters, buffer-after, counters-answer}
+use Rattle.model.specs.Counters.{decimal, counters, buffer-after, counters-answer}
 use Rattle.model.specs.Program
 use Rattle.model.specs.Program.{program}
 
@@ -73,8 +75,21 @@ one-task : ℕ → List ℕ
 one-task l = plan-bytes 2 80 l (task 0 0 0 ∷ [])
 
 -- seven tasks: 0 is followed by 1 and 2, 1 by 3 and 4, 2 and 3 by 5, 4 and 5 by 6
+seven-tasks : List (List ℕ)
+seven-tasks = task 2 1 2 ∷ task 2 3 4 ∷ task 1 5 0 ∷ task 1 5 0 ∷ task 1 6 0 ∷ task 1 6 0 ∷ task 0 0 0 ∷ []
+
 seven : ℕ → List ℕ
-seven l = plan-bytes 2 80 l (task 2 1 2 ∷ task 2 3 4 ∷ task 1 5 0 ∷ task 1 5 0 ∷ task 1 6 0 ∷ task 1 6 0 ∷ task 0 0 0 ∷ [])
+seven l = plan-bytes 2 80 l seven-tasks
+
+-- the same with a utilization of 1 percent and L = 1, so that every quantum with a work or mug cycle is efficient
+easy-seven : List ℕ
+easy-seven = plan-bytes 2 1 1 seven-tasks
+
+-- ten tasks: 0 is followed by 1 and 2, 1 by 3 and 4, 3 by 5 and 6, 2 and 4 by 7, 5 and 6 by 8, 7 and 8 by 9
+ten : List ℕ
+ten =
+    plan-bytes 2 1 1
+    (task 2 1 2 ∷ task 2 3 4 ∷ task 1 7 0 ∷ task 2 5 6 ∷ task 1 7 0 ∷ task 1 8 0 ∷ task 1 8 0 ∷ task 1 9 0 ∷ task 1 9 0 ∷ task 0 0 0 ∷ [])
 
 -- N tasks in a chain
 link : ℕ → ℕ → List ℕ
@@ -148,9 +163,227 @@ document-rows =
     ∷ row (flatMap refusal (diamond 7 80 2 ∷ diamond 1 80 2 ∷ diamond 2 100 2 ∷ diamond 2 101 2 ∷ [])) (0 ∷ 3 ∷ 0 ∷ 4 ∷ [])
     ∷ []
 
-pub rows : List Row
-rows = document-rows
+-- ---- rows of our own: each tells a misreading apart
 
+header-fields : List ℕ → List ℕ
+header-fields bytes =
+    form-field bytes ∷ responsiveness-field bytes ∷ utilization-field bytes ∷ quantum-length-field bytes ∷ task-count bytes ∷ []
+
+-- the three fields of task 0
+task-fields : List ℕ → List ℕ
+task-fields bytes = count-field bytes 0 ∷ first-field bytes 0 ∷ second-field bytes 0 ∷ []
+
+-- Plan A's fresh state, but for the number of quanta begun
+fresh-with : ℕ → State
+fresh-with begun =
+    let s = fresh (plan-of plan-a) in
+    record { execution = s .execution; started = s .started; desire = s .desire; quantum = s .quantum; begun = begun }
+
+quantum-shown : ClosedQuantum → List ℕ
+quantum-shown q = q .wanted ∷ q .granted ∷ cond (q .was-efficient) 1 0 ∷ cond (q .was-satisfied) 1 0 ∷ []
+
+current-shown : CurrentQuantum → List ℕ
+current-shown none = []
+current-shown (begun-with wanted granted) = wanted ∷ granted ∷ []
+
+-- the closed quanta, the one that is not closed, and the tasks in the order in which they were worked
+history-shown : List ℕ → List Call → List ℕ
+history-shown bytes calls =
+    let h = run (plan-of bytes) calls in
+    flatMap quantum-shown (h .closed-quanta) ++ current-shown (h .current) ++ work-order h
+
+-- the ten numbers after a second log on the record of a first
+shown-twice : List ℕ → List ℕ → List ℕ → List ℕ
+shown-twice bytes log more =
+    let ran = run-log (plan-of bytes) more (run-log (plan-of bytes) log (fresh (plan-of bytes)) .state) in
+    counters (plan-of bytes) (ran .state) (ran .refusals)
+
+statuses-from : Plan → State → List Call → List ℕ
+statuses-from plan s [] = status s ∷ []
+statuses-from plan s (call ∷ calls) = status s ∷ statuses-from plan (step plan call s) calls
+
+-- the status before the first call and after each
+statuses : List ℕ → List Call → List ℕ
+statuses bytes calls = statuses-from (plan-of bytes) (fresh (plan-of bytes)) calls
+
+-- plan reading
+plan-rows : List Row
+plan-rows =
+    -- the largest fields
+    row (header-fields (0x1f ∷ 0xff ∷ 0xff ∷ 0xff ∷ 0xff ∷ [])) (1 ∷ 7 ∷ 127 ∷ 65535 ∷ 1024 ∷ [])
+    -- fields cross the bytes, most significant bit first
+    ∷ row (header-fields (0xa5 ∷ 0x5a ∷ 0x96 ∷ 0x3c ∷ 0xc7 ∷ [])) (10 ∷ 2 ∷ 86 ∷ 42383 ∷ 200 ∷ [])
+    ∷ row (task-fields (0 ∷ 0 ∷ 0 ∷ 0 ∷ 0 ∷ 0xb5 ∷ 0x6a ∷ 0x5c ∷ [])) (2 ∷ 1709 ∷ 604 ∷ [])
+    ∷ row (refusal (diamond 2 80 2)) (0 ∷ [])
+    -- 1: fewer than 5 bytes, whatever they hold
+    ∷ row (refusal [] ++ refusal (take 4 plan-a)) (1 ∷ 1 ∷ [])
+    -- 2: form 2, form 0
+    ∷ row (refusal (0x25 ∷ drop 1 plan-a) ++ refusal (0x05 ∷ drop 1 plan-a)) (2 ∷ 2 ∷ [])
+    -- the first "no" answers
+    ∷ row (flatMap refusal (diamond 0 0 0 ∷ diamond 2 0 0 ∷ diamond 2 80 0 ∷ take 16 (diamond 2 80 0) ∷ [])) (3 ∷ 4 ∷ 5 ∷ 5 ∷ [])
+    ∷ row (flatMap refusal (take 16 (diamond 1 0 0) ∷ take 5 plan-a ∷ [])) (3 ∷ 6 ∷ [])
+    -- 8 of piece 0 comes before 7 of piece 1
+    ∷ row (refusal (plan-bytes 2 80 2 (task 1 0 0 ∷ task 3 0 0 ∷ task 0 0 0 ∷ []))) (8 ∷ [])
+    -- 7 of a piece comes before 8 of it
+    ∷ row (refusal (plan-bytes 2 80 2 (task 1 0 5 ∷ task 0 0 0 ∷ []))) (7 ∷ [])
+    -- count 3; unused fields that are not 0
+    ∷ row (flatMap (λ p. refusal (plan-bytes 2 80 2 (p ∷ task 1 2 0 ∷ task 0 0 0 ∷ []))) (task 3 1 2 ∷ task 0 1 0 ∷ task 0 0 1 ∷ task 1 1 1 ∷ [])) (7 ∷ 7 ∷ 7 ∷ 7 ∷ [])
+    -- itself; N; two equal ones; the second, the first out of range
+    ∷ row (flatMap (λ p. refusal (plan-bytes 2 80 2 (p ∷ task 1 2 0 ∷ task 0 0 0 ∷ []))) (task 1 0 0 ∷ task 1 3 0 ∷ task 2 1 1 ∷ task 2 1 3 ∷ task 2 0 1 ∷ [])) (8 ∷ 8 ∷ 8 ∷ 8 ∷ 8 ∷ [])
+    -- two followers in falling order are fine
+    ∷ row (refusal (plan-bytes 2 80 2 (task 2 2 1 ∷ task 1 3 0 ∷ task 1 3 0 ∷ task 0 0 0 ∷ []))) (0 ∷ [])
+    -- "before" is direct: the last task of a chain has one piece before it
+    ∷ row (refusal (chain 2 80 2 5)) (0 ∷ [])
+    -- none before piece 1
+    ∷ row (refusal (plan-bytes 2 80 2 (task 1 2 0 ∷ task 1 2 0 ∷ task 0 0 0 ∷ []))) (9 ∷ [])
+    -- three before piece 4
+    ∷ row (refusal (plan-bytes 2 80 2 (task 2 1 2 ∷ task 2 3 4 ∷ task 1 4 0 ∷ task 1 4 0 ∷ task 0 0 0 ∷ []))) (9 ∷ [])
+    -- 9 of all pieces comes before 10
+    ∷ row (refusal (plan-bytes 2 80 2 (task 0 0 0 ∷ task 1 2 0 ∷ task 0 0 0 ∷ []))) (9 ∷ [])
+    -- piece 2 has no follower
+    ∷ row (refusal (plan-bytes 2 80 2 (task 2 1 2 ∷ task 1 3 0 ∷ task 0 0 0 ∷ task 0 0 0 ∷ []))) (10 ∷ [])
+    ∷ []
+
+-- grants
+grant-rows : List Row
+grant-rows =
+    -- after the finish 11 answers, though a round is open
+    row (flatMap (answered (one-task 2) (grants 1 ∷ ticks (0 ∷ []) ∷ [])) (grants 0 ∷ ticks (0 ∷ []) ∷ grants 9 ∷ [])) (11 ∷ 11 ∷ 11 ∷ [])
+    -- a grant of 0 opens a round; 12 comes before 14
+    ∷ row (flatMap (answered plan-a (grants 0 ∷ [])) (grants 0 ∷ grants 1 ∷ grants 2 ∷ [])) (12 ∷ 12 ∷ 12 ∷ [])
+    -- a round of 0 leaves the wanted count
+    ∷ row (shown plan-a (0 ∷ 0x80 ∷ 0x80 ∷ [])) (0 ∷ 0 ∷ 4 ∷ 1 ∷ 0 ∷ 0 ∷ 0 ∷ 0 ∷ 0 ∷ 0 ∷ [])
+    -- 13, before 14
+    ∷ row (answer-number (first-no (grant-questions 1 (fresh-with 65534))) ∷ answer-number (first-no (grant-questions 1 (fresh-with 65535))) ∷ answer-number (first-no (grant-questions 2 (fresh-with 65535))) ∷ []) (0 ∷ 13 ∷ 13 ∷ [])
+    -- piece 0 in worker 0's line, and not as an orphan
+    ∷ row (placed plan-a (grants 1 ∷ [])) (1 ∷ 0 ∷ [])
+    -- so the first tick is a work tick and no mug tick
+    ∷ row (shown plan-a (1 ∷ 0x81 ∷ 0 ∷ [])) (1 ∷ 1 ∷ 4 ∷ 1 ∷ 1 ∷ 1 ∷ 0 ∷ 0 ∷ 0 ∷ 0 ∷ [])
+    -- also after rounds of 0
+    ∷ row (placed plan-a (grants 0 ∷ ticks [] ∷ ticks [] ∷ grants 1 ∷ [])) (1 ∷ 0 ∷ [])
+    -- withdrawn lines in rising worker order
+    ∷ row (placed (seven 1) (grants 1 ∷ ticks (0 ∷ []) ∷ grants 2 ∷ ticks (0 ∷ 0 ∷ []) ∷ grants 0 ∷ [])) (2 ∷ 3 ∷ 4 ∷ 1 ∷ 2 ∷ [])
+    -- a worker that comes back has an empty line
+    ∷ row (placed (seven 1) (grants 1 ∷ ticks (0 ∷ []) ∷ grants 2 ∷ ticks (0 ∷ 0 ∷ []) ∷ grants 0 ∷ ticks [] ∷ grants 1 ∷ [])) (0 ∷ 2 ∷ 3 ∷ 4 ∷ 1 ∷ 2 ∷ [])
+    -- the oldest orphan is picked up, whole
+    ∷ row (placed (seven 1) (grants 1 ∷ ticks (0 ∷ []) ∷ grants 2 ∷ ticks (0 ∷ 0 ∷ []) ∷ grants 0 ∷ ticks [] ∷ grants 1 ∷ ticks (0 ∷ []) ∷ [])) (2 ∷ 3 ∷ 4 ∷ 1 ∷ 2 ∷ [])
+    -- an empty line of a withdrawn worker vanishes
+    ∷ row (placed (chain 2 80 1 4) (grants 1 ∷ ticks (0 ∷ []) ∷ grants 2 ∷ ticks (0 ∷ 0 ∷ []) ∷ grants 0 ∷ [])) (1 ∷ 2 ∷ [])
+    -- a new worker has an empty line
+    ∷ row (placed (chain 2 80 1 4) (grants 1 ∷ ticks (0 ∷ []) ∷ grants 2 ∷ [])) (1 ∷ 1 ∷ 0 ∷ [])
+    ∷ []
+
+-- ticks
+tick-rows : List Row
+tick-rows =
+    -- a choice is asked of a worker that works, too
+    row (answered plan-a [] (ticks []) ++ flatMap (answered plan-a (grants 1 ∷ [])) (ticks [] ∷ ticks (9 ∷ 9 ∷ []) ∷ ticks (1 ∷ []) ∷ ticks (0 ∷ []) ∷ [])) (15 ∷ 16 ∷ 16 ∷ 17 ∷ 0 ∷ [])
+    -- a refused tick takes no tick of the round: the grant meets 12
+    ∷ row (shown plan-a (1 ∷ 0x81 ∷ 5 ∷ 0x81 ∷ 0 ∷ 1 ∷ [])) (1 ∷ 1 ∷ 4 ∷ 1 ∷ 1 ∷ 1 ∷ 0 ∷ 0 ∷ 0 ∷ 2 ∷ [])
+    -- "first" is the field, not the smaller number
+    ∷ row (placed (plan-bytes 2 80 2 (task 2 2 1 ∷ task 1 3 0 ∷ task 1 3 0 ∷ task 0 0 0 ∷ [])) (grants 1 ∷ ticks (0 ∷ []) ∷ [])) (2 ∷ 2 ∷ 1 ∷ [])
+    -- piece 3 waits for 1 and 2
+    ∷ row (placed plan-a (grants 1 ∷ ticks (0 ∷ []) ∷ ticks (0 ∷ []) ∷ grants 1 ∷ ticks (0 ∷ []) ∷ [])) (1 ∷ 3 ∷ [])
+    -- a line that was just picked up can be robbed
+    ∷ row (placed easy-seven (grants 1 ∷ ticks (0 ∷ []) ∷ grants 0 ∷ ticks [] ∷ grants 2 ∷ ticks (0 ∷ 0 ∷ []) ∷ [])) (1 ∷ 1 ∷ 1 ∷ 2 ∷ [])
+    -- .. and neither worked it in that tick
+    ∷ row (shown easy-seven (1 ∷ 0x81 ∷ 0 ∷ 0 ∷ 0x80 ∷ 2 ∷ 0x82 ∷ 0 ∷ 0 ∷ [])) (1 ∷ 1 ∷ 7 ∷ 4 ∷ 2 ∷ 1 ∷ 1 ∷ 1 ∷ 1 ∷ 0 ∷ [])
+    -- an empty worker picks up an orphan before it steals, though the chosen line has two pieces
+    ∷ row (placed ten (grants 1 ∷ ticks (0 ∷ []) ∷ grants 2 ∷ ticks (0 ∷ 0 ∷ []) ∷ grants 1 ∷ ticks (0 ∷ []) ∷ grants 2 ∷ ticks (0 ∷ 0 ∷ []) ∷ [])) (2 ∷ 6 ∷ 4 ∷ 1 ∷ 2 ∷ [])
+    ∷ row (shown ten (1 ∷ 0x81 ∷ 0 ∷ 2 ∷ 0x82 ∷ 0 ∷ 0 ∷ 1 ∷ 0x81 ∷ 0 ∷ 2 ∷ 0x82 ∷ 0 ∷ 0 ∷ [])) (1 ∷ 4 ∷ 10 ∷ 4 ∷ 2 ∷ 4 ∷ 1 ∷ 1 ∷ 1 ∷ 0 ∷ [])
+    -- a line of one piece is not robbed; and the round was inefficient
+    ∷ row (shown (chain 2 80 1 4) (1 ∷ 0x81 ∷ 0 ∷ 2 ∷ 0x82 ∷ 0 ∷ 0 ∷ [])) (1 ∷ 2 ∷ 4 ∷ 1 ∷ 2 ∷ 2 ∷ 0 ∷ 1 ∷ 0 ∷ 0 ∷ [])
+    -- a worker may choose itself, in vain
+    ∷ row (shown (seven 1) (1 ∷ 0x81 ∷ 0 ∷ 2 ∷ 0x82 ∷ 0 ∷ 1 ∷ [])) (1 ∷ 2 ∷ 7 ∷ 1 ∷ 2 ∷ 2 ∷ 0 ∷ 1 ∷ 0 ∷ 0 ∷ [])
+    -- the finishing round is not classified, also in its L-th tick
+    ∷ row (shown (one-task 1) (1 ∷ 0x81 ∷ 0 ∷ [])) (3 ∷ 1 ∷ 1 ∷ 1 ∷ 1 ∷ 1 ∷ 0 ∷ 0 ∷ 0 ∷ 0 ∷ [])
+    ∷ []
+
+-- round's end
+quantum-rows : List Row
+quantum-rows =
+    -- 140 / 100 rounds to 1
+    row (map (λ u. cond (efficient (plan-of (diamond 2 70 2)) u 1) 1 0) (1 ∷ 2 ∷ [])) (0 ∷ 1 ∷ [])
+    -- 66 / 100 rounds down to 0
+    ∷ row (map (λ u. cond (efficient (plan-of (diamond 2 33 1)) u 2) 1 0) (0 ∷ 1 ∷ [])) (0 ∷ 1 ∷ [])
+    -- 33 / 100 rounds to the nearest, 0
+    ∷ row (map (λ u. cond (efficient (plan-of (diamond 2 33 1)) u 1) 1 0) (0 ∷ 1 ∷ [])) (0 ∷ 1 ∷ [])
+    -- a round of 0 is efficient
+    ∷ row (cond (efficient (plan-of plan-a) 0 0) 1 0 ∷ []) (1 ∷ [])
+    -- it closes inside its last tick; the granted count stays
+    ∷ row (shown (chain 2 80 1 4) (1 ∷ 0x81 ∷ 0 ∷ [])) (1 ∷ 1 ∷ 4 ∷ 2 ∷ 1 ∷ 1 ∷ 0 ∷ 0 ∷ 0 ∷ 0 ∷ [])
+    -- inefficient divides, also when deprived
+    ∷ row (next-desire (plan-of plan-a) 4 false true ∷ next-desire (plan-of plan-a) 4 false false ∷ next-desire (plan-of plan-a) 4 true false ∷ next-desire (plan-of plan-a) 4 true true ∷ []) (2 ∷ 2 ∷ 4 ∷ 8 ∷ [])
+    -- at the top it stays as it is
+    ∷ row (map (λ r. next-desire (plan-of (diamond r 80 2)) (getD top-desires (r - 2) 0) true true) (2 ∷ 3 ∷ 4 ∷ 5 ∷ 6 ∷ 7 ∷ [])) (64 ∷ 27 ∷ 64 ∷ 25 ∷ 36 ∷ 49 ∷ [])
+    -- 64 itself is allowed
+    ∷ row (next-desire (plan-of plan-a) 32 true true ∷ next-desire (plan-of (diamond 4 80 2)) 16 true true ∷ []) (64 ∷ 64 ∷ [])
+    -- example 2: three closed rounds, the one that never closes, the order of work
+    ∷ row (history-shown plan-a (grants 1 ∷ ticks (0 ∷ []) ∷ ticks (0 ∷ []) ∷ grants 0 ∷ ticks [] ∷ ticks [] ∷ grants 1 ∷ ticks (0 ∷ []) ∷ ticks (0 ∷ []) ∷ grants 1 ∷ ticks (0 ∷ []) ∷ [])) (1 ∷ 1 ∷ 1 ∷ 1 ∷ 2 ∷ 0 ∷ 1 ∷ 0 ∷ 2 ∷ 1 ∷ 1 ∷ 0 ∷ 2 ∷ 1 ∷ 0 ∷ 1 ∷ 2 ∷ 3 ∷ [])
+    ∷ []
+
+-- log, status, label, count line
+log-rows : List Row
+log-rows =
+    -- a refused tick's choices are no entries
+    row (shown plan-a (1 ∷ 0x82 ∷ 1 ∷ 1 ∷ 0x81 ∷ 0 ∷ [])) (1 ∷ 1 ∷ 4 ∷ 1 ∷ 1 ∷ 1 ∷ 0 ∷ 0 ∷ 0 ∷ 1 ∷ [])
+    -- a grant byte is read as it stands
+    ∷ row (shown plan-a (0x7f ∷ 0x41 ∷ [])) (0 ∷ 0 ∷ 4 ∷ 1 ∷ 0 ∷ 0 ∷ 0 ∷ 0 ∷ 0 ∷ 2 ∷ [])
+    ∷ row (answer-number (log-answer (1 ∷ 0x81 ∷ [])) ∷ answer-number (log-answer (1 ∷ 0x82 ∷ 0 ∷ [])) ∷ answer-number (log-answer (1 ∷ 0x80 ∷ [])) ∷ answer-number (log-answer []) ∷ []) (18 ∷ 18 ∷ 0 ∷ 0 ∷ [])
+    -- a broken entry is not counted, nor asked 11
+    ∷ row (shown (one-task 2) (1 ∷ 0x81 ∷ 0 ∷ 0x82 ∷ 0 ∷ [])) (3 ∷ 1 ∷ 1 ∷ 1 ∷ 1 ∷ 1 ∷ 0 ∷ 0 ∷ 0 ∷ 0 ∷ [])
+    -- a log runs from any record; the refused count is its own
+    ∷ row (shown-twice plan-a (2 ∷ 1 ∷ 0x81 ∷ 0 ∷ []) (1 ∷ 0x81 ∷ 0 ∷ [])) (1 ∷ 2 ∷ 4 ∷ 2 ∷ 1 ∷ 2 ∷ 0 ∷ 0 ∷ 0 ∷ 1 ∷ [])
+    -- status in the order 3, 0, 2, 1
+    ∷ row (statuses plan-a (grants 0 ∷ ticks [] ∷ ticks [] ∷ grants 1 ∷ ticks (0 ∷ []) ∷ ticks (0 ∷ []) ∷ grants 0 ∷ ticks [] ∷ ticks [] ∷ grants 2 ∷ ticks (0 ∷ 0 ∷ []) ∷ ticks (0 ∷ 0 ∷ []) ∷ grants 1 ∷ ticks (0 ∷ []) ∷ [])) (0 ∷ 0 ∷ 0 ∷ 0 ∷ 1 ∷ 1 ∷ 1 ∷ 2 ∷ 2 ∷ 2 ∷ 1 ∷ 1 ∷ 1 ∷ 1 ∷ 3 ∷ [])
+    -- an empty line is a line; lines past the fourth are passed over
+    ∷ row (flatMap (labelled (97 ∷ 10 ∷ 10 ∷ 98 ∷ 99 ∷ 10 ∷ 100 ∷ 10 ∷ 120 ∷ 10 ∷ 121 ∷ [])) (below 4)) (0 ∷ 0 ∷ 1 ∷ 97 ∷ 0 ∷ 2 ∷ 0 ∷ 0 ∷ 3 ∷ 2 ∷ 98 ∷ 99 ∷ 0 ∷ 6 ∷ 1 ∷ 100 ∷ [])
+    -- a stretch without its end is no line
+    ∷ row (flatMap (labelled (97 ∷ 10 ∷ 98 ∷ [])) (below 4)) (0 ∷ 0 ∷ 1 ∷ 97 ∷ 19 ∷ 0 ∷ 0 ∷ 19 ∷ 0 ∷ 0 ∷ 19 ∷ 0 ∷ 0 ∷ [])
+    ∷ row (labelled [] 0 ++ labelled (10 ∷ []) 0) (19 ∷ 0 ∷ 0 ∷ 0 ∷ 0 ∷ 0 ∷ [])
+    ∷ row (flatMap decimal (0 ∷ 9 ∷ 10 ∷ 109 ∷ 18446744073709551615 ∷ [])) (48 ∷ 57 ∷ 49 ∷ 48 ∷ 49 ∷ 48 ∷ 57 ∷ 49 ∷ 56 ∷ 52 ∷ 52 ∷ 54 ∷ 55 ∷ 52 ∷ 52 ∷ 48 ∷ 55 ∷ 51 ∷ 55 ∷ 48 ∷ 57 ∷ 53 ∷ 53 ∷ 49 ∷ 54 ∷ 49 ∷ 53 ∷ [])
+    -- bytes after the line do not change
+    ∷ row (buffer-after (plan-of plan-a) (fresh (plan-of plan-a)) 0 (replicate 130 7)) (48 ∷ 32 ∷ 48 ∷ 32 ∷ 52 ∷ 32 ∷ 49 ∷ 32 ∷ 48 ∷ 32 ∷ 48 ∷ 32 ∷ 48 ∷ 32 ∷ 48 ∷ 32 ∷ 48 ∷ 32 ∷ 48 ∷ 10 ∷ 7 ∷ 7 ∷ 7 ∷ 7 ∷ 7 ∷ 7 ∷ 7 ∷ 7 ∷ 7 ∷ 7 ∷ 7 ∷ 7 ∷ 7 ∷ 7 ∷ 7 ∷ 7 ∷ 7 ∷ 7 ∷ 7 ∷ 7 ∷ 7 ∷ 7 ∷ 7 ∷ 7 ∷ 7 ∷ 7 ∷ 7 ∷ 7 ∷ 7 ∷ 7 ∷ 7 ∷ 7 ∷ 7 ∷ 7 ∷ 7 ∷ 7 ∷ 7 ∷ 7 ∷ 7 ∷ 7 ∷ 7 ∷ 7 ∷ 7 ∷ 7 ∷ 7 ∷ 7 ∷ 7 ∷ 7 ∷ 7 ∷ 7 ∷ 7 ∷ 7 ∷ 7 ∷ 7 ∷ 7 ∷ 7 ∷ 7 ∷ 7 ∷ 7 ∷ 7 ∷ 7 ∷ 7 ∷ 7 ∷ 7 ∷ 7 ∷ 7 ∷ 7 ∷ 7 ∷ 7 ∷ 7 ∷ 7 ∷ 7 ∷ 7 ∷ 7 ∷ 7 ∷ 7 ∷ 7 ∷ 7 ∷ 7 ∷ 7 ∷ 7 ∷ 7 ∷ 7 ∷ 7 ∷ 7 ∷ 7 ∷ 7 ∷ 7 ∷ 7 ∷ 7 ∷ 7 ∷ 7 ∷ 7 ∷ 7 ∷ 7 ∷ 7 ∷ 7 ∷ 7 ∷ 7 ∷ 7 ∷ 7 ∷ 7 ∷ 7 ∷ 7 ∷ 7 ∷ 7 ∷ 7 ∷ 7 ∷ 7 ∷ 7 ∷ [])
+    -- 20 asks the buffer's length
+    ∷ row (length (keep (λ b. eqb b 7) (buffer-after (plan-of plan-a) (fresh (plan-of plan-a)) 0 (replicate 127 7))) ∷ answer-number (counters-answer (replicate 127 7)) ∷ answer-number (counters-answer (replicate 128 7)) ∷ []) (127 ∷ 20 ∷ 0 ∷ [])
+    ∷ []
+
+-- the program
+program-rows : List Row
+program-rows =
+    row (program [] ++ program (0 ∷ []) ++ program (0 ∷ 1 ∷ []) ++ program (0 ∷ 0 ∷ [])) (114 ∷ 101 ∷ 102 ∷ 117 ∷ 115 ∷ 101 ∷ 100 ∷ 32 ∷ 50 ∷ 50 ∷ 10 ∷ 114 ∷ 101 ∷ 102 ∷ 117 ∷ 115 ∷ 101 ∷ 100 ∷ 32 ∷ 50 ∷ 50 ∷ 10 ∷ 114 ∷ 101 ∷ 102 ∷ 117 ∷ 115 ∷ 101 ∷ 100 ∷ 32 ∷ 50 ∷ 50 ∷ 10 ∷ 114 ∷ 101 ∷ 102 ∷ 117 ∷ 115 ∷ 101 ∷ 100 ∷ 32 ∷ 49 ∷ 10 ∷ [])
+    ∷ row (program (replicate 65536 0) ++ program (replicate 65537 0)) (114 ∷ 101 ∷ 102 ∷ 117 ∷ 115 ∷ 101 ∷ 100 ∷ 32 ∷ 49 ∷ 10 ∷ 114 ∷ 101 ∷ 102 ∷ 117 ∷ 115 ∷ 101 ∷ 100 ∷ 32 ∷ 50 ∷ 49 ∷ 10 ∷ [])
+    ∷ row (program (0 ∷ 17 ∷ [] ++ plan-a)) (48 ∷ 32 ∷ 48 ∷ 32 ∷ 52 ∷ 32 ∷ 49 ∷ 32 ∷ 48 ∷ 32 ∷ 48 ∷ 32 ∷ 48 ∷ 32 ∷ 48 ∷ 32 ∷ 48 ∷ 32 ∷ 48 ∷ 10 ∷ [])
+    -- after 18 the count line first
+    ∷ row (program (0 ∷ 17 ∷ [] ++ plan-a ++ (1 ∷ 0x81 ∷ []))) (49 ∷ 32 ∷ 48 ∷ 32 ∷ 52 ∷ 32 ∷ 49 ∷ 32 ∷ 49 ∷ 32 ∷ 48 ∷ 32 ∷ 48 ∷ 32 ∷ 48 ∷ 32 ∷ 48 ∷ 32 ∷ 48 ∷ 10 ∷ 114 ∷ 101 ∷ 102 ∷ 117 ∷ 115 ∷ 101 ∷ 100 ∷ 32 ∷ 49 ∷ 56 ∷ 10 ∷ [])
+    -- with a refused plan nothing of the log is looked at
+    ∷ row (program (0 ∷ 16 ∷ [] ++ plan-a) ++ program (0 ∷ 18 ∷ [] ++ plan-a)) (114 ∷ 101 ∷ 102 ∷ 117 ∷ 115 ∷ 101 ∷ 100 ∷ 32 ∷ 54 ∷ 10 ∷ 114 ∷ 101 ∷ 102 ∷ 117 ∷ 115 ∷ 101 ∷ 100 ∷ 32 ∷ 50 ∷ 50 ∷ 10 ∷ [])
+    ∷ []
+
+our-rows : List Row
+our-rows = plan-rows ++ grant-rows ++ tick-rows ++ quantum-rows ++ log-rows ++ program-rows
+
+pub rows : List Row
+rows = document-rows ++ our-rows
+
+-- every row holds
 pub table : failing 0 rows ≡ []
-unfolding same row-holds failing plan-a task plan-bytes diamond one-task seven link chain refusal after-calls shown answered listed placed labelled document-rows rows below every keep member count-set all-set first-no flatMap Plan.predecessors Plan.number Plan.header Plan.task-bits Plan.successor-fields Plan.plan-of Plan.fields-ok Plan.two-differ Plan.targets-ok Plan.task-questions Plan.all-preceded Plan.one-exit Plan.header-questions Plan.graph-questions Plan.plan-questions Plan.plan-answer Machine.finished Machine.fresh Machine.grant-questions Machine.kept-deques Machine.withdrawn-deques Machine.first-task-placed Machine.grant Machine.tick-questions Machine.cycle-of Machine.ready Machine.released Machine.left-by-steal Machine.taken-by-steal Machine.work-cycle Machine.mug-cycle Machine.successful-steal Machine.failed-steal Machine.cycle Machine.cycles Machine.cycles-made Machine.ticked Machine.efficient Machine.satisfied Machine.next-desire Machine.closes Machine.closed Machine.tick Machine.top-desires Machine.call-answer Machine.step Machine.status Log.entries-up-to Log.entries Log.run-calls Log.run-log Log.log-answer Label.lines-from Label.lines Label.label-answer Label.label Counters.decimal-up-to Counters.decimal Counters.spaced Counters.counters Counters.counters-line Counters.counters-answer Counters.buffer-after Program.plan-length Program.plan-part Program.log-part Program.input-questions Program.refused-line Program.log-output Program.program
+unfolding same row-holds failing plan-a task plan-bytes diamond one-task seven easy-seven ten link chain refusal after-calls shown answered listed placed labelled document-rows seven-tasks header-fields task-fields fresh-with quantum-shown current-shown history-shown shown-twice statuses-from statuses plan-rows grant-rows tick-rows quantum-rows log-rows program-rows our-rows rows below every keep member count-set all-set first-no flatMap Plan.predecessors Plan.number Plan.header Plan.task-bits Plan.successor-fields Plan.plan-of Plan.fields-ok Plan.two-differ Plan.targets-ok Plan.task-questions Plan.all-preceded Plan.one-exit Plan.header-questions Plan.graph-questions Plan.plan-questions Plan.plan-answer Machine.finished Machine.fresh Machine.grant-questions Machine.kept-deques Machine.withdrawn-deques Machine.first-task-placed Machine.grant Machine.tick-questions Machine.cycle-of Machine.ready Machine.released Machine.left-by-steal Machine.taken-by-steal Machine.work-cycle Machine.mug-cycle Machine.successful-steal Machine.failed-steal Machine.cycle Machine.cycles Machine.cycles-made Machine.ticked Machine.efficient Machine.satisfied Machine.next-desire Machine.closes Machine.closed Machine.tick Machine.top-desires Machine.call-answer Machine.step Machine.status History.beginning History.history-grant History.history-tick History.history-step History.run-from History.run History.tasks-in Log.entries-up-to Log.entries Log.run-calls Log.run-log Log.log-answer Label.lines-from Label.lines Label.label-answer Label.label Counters.decimal-up-to Counters.decimal Counters.spaced Counters.counters Counters.counters-line Counters.counters-answer Counters.buffer-after Program.plan-length Program.plan-part Program.log-part Program.input-questions Program.refused-line Program.log-output Program.program
 table = refl
+
+-- ---- the table of the six top desires: one test over all of its entries
+
+powers : ℕ → List ℕ
+powers r = map (desire-at r) (below 7)
+
+-- "the largest powers of R up to 64": a power of R, at most 64, and R times it exceeds 64
+top-desire-right : ℕ → ℕ → Bool
+top-desire-right r top = member top (powers r) && (leb top most-workers && ltb most-workers (top * r))
+
+pub top-desires-right : ℕ → List ℕ → Bool
+top-desires-right r [] = true
+top-desires-right r (top ∷ tops) = top-desire-right r top && top-desires-right (suc r) tops
+
+pub top-desires-rule : top-desires-right 2 top-desires ≡ true
+unfolding powers top-desire-right top-desires-right below member top-desires
+top-desires-rule = refl
