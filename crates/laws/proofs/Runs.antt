@@ -1,0 +1,190 @@
+-- How a property is carried through a list of calls. The history of a list with one call more is one step of the history before, and a
+-- refused call is no step. So what holds at the beginning, and is kept by an accepted grant, by a tick's cycles and by a quantum's end,
+-- holds after every list of calls.
+-- Assumes nothing.
+use mathlib.Core.Path.{_≡_, refl, subst}
+use mathlib.Core.Bool.{Bool, true, false, cond, not, _&&_}
+use mathlib.Core.List.{List, [], _∷_, _++_}
+use Prim.Native.Nat.{ℕ, _<_, _≤_}
+use lib.Dec.{leb, ltb, eqb}
+use lib.ListN.{length}
+use borrow.Author.Tests.{ltb-true, leb-true, eqb-true, not-true}
+use Rattle.model.specs.Tests.{every}
+use Rattle.model.specs.Questions.{Question, Answer, accepted, refused, first-no, by-answer}
+use Rattle.model.specs.Plan.{Plan}
+use Rattle.model.specs.Machine.{State, Call, grants, ticks, call-answer, allotment, finished, quantum-limit, no-quantum-open, closes, closed, ticked, tick, grant-questions, tick-questions, cycles, cycles-made}
+use Rattle.model.specs.History.{History, none, verdict, beginning, history-grant, history-tick, history-moved, history-step, run, run-from}
+
+-- ---- one call more
+
+run-from-snoc : (plan : Plan) (h : History) (calls : List Call) (call : Call) →
+    run-from plan h (calls ++ call ∷ []) ≡ history-step plan call (run-from plan h calls)
+unfolding run-from
+run-from-snoc plan h [] call = refl
+run-from-snoc plan h (first ∷ calls) call = run-from-snoc plan (history-step plan first h) calls call
+
+-- the history of a list with one call more is one step of the history before
+pub run-snoc : (plan : Plan) (calls : List Call) (call : Call) → run plan (calls ++ call ∷ []) ≡ history-step plan call (run plan calls)
+unfolding run
+run-snoc plan calls call = run-from-snoc plan (beginning plan) calls call
+
+-- what the steps from the histories that are reached keep
+module _ (plan : Plan) (P : History → Type 0)
+    (kept : (calls : List Call) (call : Call) → P (run plan calls) → P (history-step plan call (run plan calls)))
+    where
+  onward : (done calls : List Call) → P (run plan done) → P (run-from plan (run plan done) calls)
+  unfolding run-from
+  onward done [] p = p
+  onward done (call ∷ calls) p =
+      rw (← run-snoc plan done call) (onward (done ++ call ∷ []) calls (rw run-snoc (kept done call p)))
+
+  pub by-steps : P (beginning plan) → (calls : List Call) → P (run plan calls)
+  unfolding run run-from
+  by-steps start calls = onward [] calls start
+
+-- ---- what an accepted call has been asked
+
+by-answers : (answer : Answer) (P : History → Type 0) (new old : History) → (answer ≡ accepted → P new) → P old → P (by-answer answer new old)
+by-answers accepted P new old moves stays = moves refl
+by-answers (refused n) P new old moves stays = stays
+
+-- every question of an accepted list was answered by yes
+first-yes : (q : Question) (qs : List Question) → first-no (q ∷ qs) ≡ accepted → q .holds ≡ true
+unfolding first-no
+first-yes q qs answer = go (q .holds) answer
+  where
+    go : (b : Bool) → cond b (first-no qs) (refused (q .number)) ≡ accepted → b ≡ true
+    go true e = refl
+    go false e = cc
+
+later-yes : (q : Question) (qs : List Question) → first-no (q ∷ qs) ≡ accepted → first-no qs ≡ accepted
+unfolding first-no
+later-yes q qs answer = go (q .holds) answer
+  where
+    go : (b : Bool) → cond b (first-no qs) (refused (q .number)) ≡ accepted → first-no qs ≡ accepted
+    go true e = e
+    go false e = cc
+
+-- 11 to 14
+pub record GrantAsked (g : ℕ) (s : State) : Type 0 where
+  pub unfinished : finished (s .execution) ≡ false
+  pub none-open : no-quantum-open (s .quantum) ≡ true
+  pub few-begun : s .begun < quantum-limit
+  pub wanted : g ≤ s .desire
+
+pub grant-asked : (g : ℕ) (s : State) → call-answer (grants g) s ≡ accepted → GrantAsked g s
+unfolding call-answer grant-questions
+grant-asked g s answer =
+    let later = later-yes _ _ answer in
+    let later₂ = later-yes _ _ later in
+    let later₃ = later-yes _ _ later₂ in
+    record {
+      unfinished = not-true _ (first-yes _ _ answer);
+      none-open = first-yes _ _ later;
+      few-begun = ltb-true _ _ (first-yes _ _ later₂);
+      wanted = leb-true _ _ (first-yes _ _ later₃);
+    }
+
+-- 11 and 15 to 17
+pub record TickAsked (choices : List ℕ) (s : State) : Type 0 where
+  pub unfinished : finished (s .execution) ≡ false
+  pub one-open : no-quantum-open (s .quantum) ≡ false
+  pub a-choice-each : length choices ≡ allotment s
+  pub choices-below : every (λ choice. ltb choice (allotment s)) choices ≡ true
+
+pub tick-asked : (choices : List ℕ) (s : State) → call-answer (ticks choices) s ≡ accepted → TickAsked choices s
+unfolding call-answer tick-questions
+tick-asked choices s answer =
+    let later = later-yes _ _ answer in
+    let later₂ = later-yes _ _ later in
+    let later₃ = later-yes _ _ later₂ in
+    record {
+      unfinished = not-true _ (first-yes _ _ answer);
+      one-open = not-true _ (first-yes _ _ later);
+      a-choice-each = eqb-true _ _ (first-yes _ _ later₂);
+      choices-below = first-yes _ _ later₃;
+    }
+
+-- ---- the three moves
+
+-- a tick's cycles, before it is asked whether the quantum closes
+abbrev pub history-ticked : Plan → List ℕ → History → History
+history-ticked plan choices h =
+    record {
+      state = ticked plan choices (h .state);
+      closed-quanta = h .closed-quanta;
+      current = h .current;
+      made = h .made ++ cycles-made plan 0 choices (h .state .execution);
+    }
+
+-- the quantum's end
+abbrev pub history-closed : Plan → History → History
+history-closed plan h =
+    record {
+      state = closed plan (h .state);
+      closed-quanta = h .closed-quanta ++ verdict plan (h .current) (h .state);
+      current = none;
+      made = h .made;
+    }
+
+-- a tick is its cycles and, where the quantum closes with it, the quantum's end
+pub tick-moves : (plan : Plan) (P : History → Type 0) (choices : List ℕ) (h : History) →
+    P (history-ticked plan choices h) →
+    (closes plan (ticked plan choices (h .state)) ≡ true → P (history-closed plan (history-ticked plan choices h))) →
+    P (history-tick plan choices h)
+unfolding history-tick tick
+tick-moves plan P choices h open-still ended = go (closes plan (ticked plan choices (h .state))) refl
+  where
+    go : (b : Bool) → closes plan (ticked plan choices (h .state)) ≡ b →
+        P
+        (record {
+          state = cond b (closed plan (ticked plan choices (h .state))) (ticked plan choices (h .state));
+          closed-quanta =
+              cond b (h .closed-quanta ++ verdict plan (h .current) (ticked plan choices (h .state))) (h .closed-quanta);
+          current = cond b none (h .current);
+          made = h .made ++ cycles-made plan 0 choices (h .state .execution);
+        })
+    go true e = ended e
+    go false e = open-still
+
+-- the closing changes nothing of the execution
+pub tick-execution : (plan : Plan) (choices : List ℕ) (s : State) →
+    tick plan choices s .execution ≡ cycles plan 0 choices (s .execution)
+unfolding tick closed ticked
+tick-execution plan choices s = go (closes plan (ticked plan choices s))
+  where
+    go : (b : Bool) → cond b (closed plan (ticked plan choices s)) (ticked plan choices s) .execution ≡ cycles plan 0 choices (s .execution)
+    go true = refl
+    go false = refl
+
+-- what holds at the beginning, and is kept by an accepted grant and by an accepted tick from the histories that are reached, holds after
+-- every list of calls
+module _ (plan : Plan) (P : History → Type 0)
+    (start : P (beginning plan))
+    (grant-keeps : (calls : List Call) (g : ℕ) → call-answer (grants g) (run plan calls .state) ≡ accepted → P (run plan calls) →
+        P (history-grant g (run plan calls)))
+    where
+  module _
+      (tick-keeps : (calls : List Call) (choices : List ℕ) → call-answer (ticks choices) (run plan calls .state) ≡ accepted →
+          P (run plan calls) → P (history-tick plan choices (run plan calls)))
+      where
+    accepted-keeps : (calls : List Call) (call : Call) → P (run plan calls) → P (history-step plan call (run plan calls))
+    unfolding history-step
+    accepted-keeps calls (grants g) p =
+        by-answers (call-answer (grants g) (run plan calls .state)) P _ _ (λ answer. grant-keeps calls g answer p) p
+    accepted-keeps calls (ticks choices) p =
+        by-answers (call-answer (ticks choices) (run plan calls .state)) P _ _ (λ answer. tick-keeps calls choices answer p) p
+
+    pub by-accepted-calls : (calls : List Call) → P (run plan calls)
+    by-accepted-calls = by-steps plan P accepted-keeps start
+
+  -- the same, with the tick in its two parts
+  pub by-moves :
+      ((calls : List Call) (choices : List ℕ) → call-answer (ticks choices) (run plan calls .state) ≡ accepted → P (run plan calls) →
+          P (history-ticked plan choices (run plan calls))) →
+      ((h : History) → closes plan (h .state) ≡ true → P h → P (history-closed plan h)) → (calls : List Call) → P (run plan calls)
+  by-moves cycles-keep end-keeps =
+      by-accepted-calls
+      (λ calls choices answer p.
+        let q = cycles-keep calls choices answer p in
+        tick-moves plan P choices (run plan calls) q (λ closing. end-keeps _ closing q))
