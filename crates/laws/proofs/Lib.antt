@@ -1,4 +1,6 @@
 -- The proofs, by topic.
 -- Runs: how a property is carried through a list of calls. Counting: what a tick and a grant do to the counts.
+-- Powers: the open quantum, and what a quantum's end does to the desire.
 pub mod Runs
 pub mod Counting
+pub mod Powers
