@@ -157,6 +157,12 @@ tick-execution plan choices s = go (closes plan (ticked plan choices s))
     go true = refl
     go false = refl
 
+-- an accepted tick's step of the history moves the execution by its cycles
+pub step-execution : (plan : Plan) (choices : List ℕ) (h : History) → call-answer (ticks choices) (h .state) ≡ accepted →
+    history-step plan (ticks choices) h .state .execution ≡ cycles plan 0 choices (h .state .execution)
+unfolding history-step history-tick
+step-execution plan choices h answer = rw answer (tick-execution plan choices (h .state))
+
 -- what holds at the beginning, and is kept by an accepted grant and by an accepted tick from the histories that are reached, holds after
 -- every list of calls
 module _ (plan : Plan) (P : History → Type 0)
