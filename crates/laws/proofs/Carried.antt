@@ -1,20 +1,19 @@
 -- What one induction over the list of calls carries for demand 3: the open quantum agrees with the state, the desire is a power of the
 -- responsiveness, the stack of unused quanta has one for each power below it, and the balance of the mugs holds at that power.
 -- Assumes a sound plan, and progress after every list of calls.
-use mathlib.Core.Path.{_≡_, refl, sym, ap, _∙_}
+use mathlib.Core.Path.{_≡_, sym}
 use mathlib.Core.Bool.{true}
-use mathlib.Core.List.{List, [], _∷_, _++_}
-use Prim.Native.Nat.{ℕ, zero, suc, _+_, _^_, _≤_, _<_}
+use mathlib.Core.List.{List}
+use Prim.Native.Nat.{ℕ}
 use native.Mathlib.Omega.{arith}
 use native.Mathlib.Nat.{pow-zero}
 use Rattle.model.specs.Questions.{accepted}
 use Rattle.model.specs.Plan.{Plan}
-use Rattle.model.specs.Machine.{Call, grants, ticks, call-answer, fresh, grant, ticked, closed, closes}
-use Rattle.model.specs.History.{History, ClosedQuantum, beginning, history-grant, run, verdict}
+use Rattle.model.specs.Machine.{Call, grants, ticks, call-answer, fresh, grant, ticked, closes}
+use Rattle.model.specs.History.{History, beginning, history-grant, run}
 use Rattle.model.specs.Statements.{SoundPlan, Progress}
 use Rattle.laws.proofs.Runs.{grant-asked, tick-asked, history-ticked, history-closed, step-execution, by-moves}
-use Rattle.laws.proofs.Counting.{spent}
-use Rattle.laws.proofs.Powers.{Phase, phase-start, phase-granted, phase-ticked, phase-closed, Progressing, ending, Closing, at-end, Power, Ended, ended}
+use Rattle.laws.proofs.Powers.{Phase, phase-start, phase-granted, phase-ticked, phase-closed, Progressing, ending, at-end, Power, ended}
 use Rattle.laws.proofs.PairingLaw.{Stacked, stacked-none, stacked-end}
 use Rattle.laws.proofs.MugLimitLaw.{Balance, balance-start, balance-granted, balance-ticked, balance-closed}
 

@@ -2,16 +2,16 @@
 -- each mug cycle takes one muggable deque away while nothing adds one. A grant of g leaves g workers, and adds a muggable deque for each
 -- non-empty deque that it withdraws, so no more than the workers there were.
 -- Assumes nothing.
-use mathlib.Core.Path.{_≡_, refl, sym, ap, subst}
+use mathlib.Core.Path.{_≡_, refl}
 use mathlib.Core.Bool.{Bool, true, false, cond, not}
-use mathlib.Core.List.{List, [], _∷_, _++_, tail}
-use Prim.Native.Nat.{ℕ, zero, suc, _+_, _-_, _≤_, _<_, min}
+use mathlib.Core.List.{List, [], _∷_}
+use Prim.Native.Nat.{ℕ, suc, _+_, _≤_}
 use native.Mathlib.Omega.{arith}
 use lib.Dec.{leb}
-use lib.ListN.{length, drop, take, set, replicate, length-append, length-set, length-take, length-drop, length-replicate}
+use lib.ListN.{length, drop, length-append, length-set, length-take, length-drop, length-replicate}
 use Rattle.model.specs.Tests.{keep, is-empty}
 use Rattle.model.specs.Plan.{Plan}
-use Rattle.model.specs.Machine.{Execution, State, Cycle, works-on, mugs-deque, steals-from, steals-nothing, allotment, deque-of, finished, decided, steal-cycle, performed, cycle, cycle-of, cycles, work-cycle, mug-cycle, successful-steal, failed-steal, grant, kept-deques, withdrawn-deques, first-task-placed, place-first-task}
+use Rattle.model.specs.Machine.{Execution, State, steals-from, steals-nothing, allotment, deque-of, finished, decided, performed, cycle, cycle-of, cycles, work-cycle, mug-cycle, successful-steal, failed-steal, grant, kept-deques, withdrawn-deques, first-task-placed}
 use Rattle.laws.specs.Invariants.{busy}
 
 -- ---- cycles

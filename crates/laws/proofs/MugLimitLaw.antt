@@ -4,17 +4,17 @@
 -- reserve of a power pays for the inefficient quantum that goes down from it.
 -- Assumes nothing but how a quantum may end (QuantumEnd of Powers).
 use mathlib.Core.Path.{_≡_, refl, sym, ap, _∙_}
-use mathlib.Core.Bool.{Bool, true, false}
+use mathlib.Core.Bool.{true, false}
 use mathlib.Core.List.{List, [], _∷_, _++_}
 use Prim.Native.Nat.{ℕ, zero, suc, _+_, _-_, _*_, _^_, _≤_, _<_}
 use native.Mathlib.Omega.{arith}
-use native.Mathlib.Nat.{mul-zero, mul-add, mul-one, mul-comm, mul-assoc, mul-sub, mul-right-comm, mul-le-mul-left, mul-le-mul-right, pow-suc, le-mul-of-pos-right}
-use lib.ListN.{length, length-append}
+use native.Mathlib.Nat.{mul-zero, mul-add, mul-one, mul-comm, mul-assoc, mul-sub, mul-right-comm, mul-le-mul-left, mul-le-mul-right, pow-suc}
+use lib.ListN.{length}
 use Rattle.model.specs.Plan.{Plan}
 use Rattle.model.specs.Machine.{State, Quantum, idle, opened, allotment, no-quantum-open, fresh, grant, ticked, closed}
 use Rattle.model.specs.History.{ClosedQuantum, History}
 use Rattle.model.specs.Statements.{MugLimit, MugBound}
-use Rattle.laws.proofs.Counting.{spent, Counted, cycles-counted, granted}
+use Rattle.laws.proofs.Counting.{spent, cycles-counted, granted}
 use Rattle.laws.proofs.Powers.{QuantumEnd, lowers, raises, stays, ending}
 
 -- ---- the balance
@@ -74,10 +74,9 @@ module _ (p r sum rest g u n : ℕ) where
   paid-raise : p * g ≤ 100 * u → p * (sum + rest) + 100 * (1 + r) * u ≤ 100 * (1 + r) * n →
       p * (sum + g + (rest + g * r)) ≤ 100 * (1 + r) * n
   paid-raise enough before =
-      let twice : g * (1 + r) ≡ g + g * r = mul-add g 1 r ∙ ap (λ x. x + g * r) (mul-one g) in
-      let split : p * (sum + g + (rest + g * r)) ≡ p * (sum + rest) + p * (g * (1 + r)) =
-          ap (λ x. p * x) (omega arith) ∙ mul-add p (sum + rest) (g * (1 + r)) in
-      omega (arith, pays enough)
+      let shared : g * (1 + r) ≡ g + g * r = mul-add g 1 r ∙ ap (λ x. x + g * r) (mul-one g) in
+      let split : sum + g + (rest + g * r) ≡ sum + rest + g * (1 + r) = omega arith in
+      rw split (omega (arith, mul-add p (sum + rest) (g * (1 + r)), pays enough))
 
   paid-stay : p * g ≤ 100 * u → p * (sum + rest) + 100 * (1 + r) * u ≤ 100 * (1 + r) * n → p * (sum + g + rest) ≤ 100 * (1 + r) * n
   paid-stay enough before =
@@ -95,8 +94,7 @@ unfolding reserve
 paid-end plan q sum u n k after few power (lowers {k = j} inefficient) before =
     paid-lower _ (plan .responsiveness) sum (reserve (plan .responsiveness) j) (q .granted) u n _ few before
 paid-end plan q sum u n k after few power (raises {k = j} is-efficient is-satisfied all enough) before =
-    let next : plan .responsiveness ^ suc j ≡ q .granted * plan .responsiveness =
-        pow-suc _ _ ∙ ap (λ x. x * plan .responsiveness) (sym (all ∙ power)) in
+    let next : plan .responsiveness ^ suc j ≡ q .granted * plan .responsiveness = rw (pow-suc, all, power) in
     rw next (paid-raise _ (plan .responsiveness) sum (reserve (plan .responsiveness) j) (q .granted) u n enough before)
 paid-end plan q sum u n k after few power (stays {k = j} is-efficient enough) before =
     paid-stay _ (plan .responsiveness) sum (reserve (plan .responsiveness) j) (q .granted) u n enough before
@@ -149,9 +147,8 @@ module _ (plan : Plan) (s : State) (quanta : List ClosedQuantum) (k : ℕ) (b : 
       Balance plan (closed plan s) (quanta ++ ending plan s ∷ []) after
   unfolding closed
   balance-closed after is-open few power end =
-      let settled =
-          paid-end plan (ending plan s) (granted-sum quanta) (s .execution .counts .usage) (spent (s .execution)) k after few power end
-          (rw all-unsettled at (b .paid)) in
+      let before = rw all-unsettled at (b .paid) in
+      let settled = paid-end plan (ending plan s) (granted-sum quanta) _ (spent (s .execution)) k after few power end before in
       record {
         covered = omega (arith, b .covered, none-coming (s .quantum) (allotment s) is-open, granted-sum-snoc quanta (ending plan s));
         paid = rw granted-sum-snoc (omega (arith, settled, mul-zero (100 * (1 + plan .responsiveness))));

@@ -3,19 +3,19 @@
 -- inefficient one takes the top as its partner; any other end leaves the stack.
 -- Assumes nothing but how a quantum may end (QuantumEnd of Powers).
 use mathlib.Core.Path.{_≡_, refl, sym, ap, _∙_}
-use mathlib.Core.Bool.{Bool, true, false, cond}
+use mathlib.Core.Bool.{true, false, cond}
 use mathlib.Core.Logic.{_⊎_, inl, inr}
 use mathlib.Core.List.{List, [], _∷_, _++_}
-use Prim.Native.Nat.{ℕ, zero, suc, _+_, _*_, _^_, _≤_, _<_}
+use Prim.Native.Nat.{ℕ, suc, _*_, _^_, _≤_, _<_}
 use native.Mathlib.Omega.{arith}
 use native.Mathlib.Nat.{pow-suc, one-le-pow, mul-le-mul-right, one-mul, eq-or-lt-of-le, le-of-suc-le-suc}
 use lib.Dec.{eqb}
-use lib.ListN.{length, getD, length-append, List·getD-append}
+use lib.ListN.{length, length-append, List·getD-append}
 use lib.Seq.{getD-append-seam}
 use borrow.Author.Tests.{eq-eqb, ne-eqb}
 use Rattle.model.specs.Plan.{Plan}
 use Rattle.model.specs.History.{ClosedQuantum}
-use Rattle.model.specs.Statements.{SoundPlan, Pairing, Inefficient, OneIsEfficient, nth, no-quantum}
+use Rattle.model.specs.Statements.{Pairing, Inefficient, OneIsEfficient, nth, no-quantum}
 use Rattle.laws.proofs.Powers.{QuantumEnd, lowers, raises, stays}
 
 -- ---- a function changed at one number
@@ -214,69 +214,69 @@ module _ (plan : Plan) (quanta : List ClosedQuantum) (q : ClosedQuantum) where
 
   -- q is inefficient: the top of the stack becomes its partner
   module _ (k : ℕ) (s : Stacked plan quanta (suc k)) (its-wanted : q .wanted ≡ plan .responsiveness ^ suc k) (responsive : 2 ≤ plan .responsiveness)
-      where
-    top : Level plan quanta k (s .level k)
-    top = s .levels k (omega arith)
+    where
+      top : Level plan quanta k (s .level k)
+      top = s .levels k (omega arith)
 
-    popped-partner : ℕ → ℕ
-    popped-partner = updated (s .partner) (length quanta) (s .level k)
+      popped-partner : ℕ → ℕ
+      popped-partner = updated (s .partner) (length quanta) (s .level k)
 
-    popped-new : (i : ℕ) → i ≡ length quanta → popped-partner i ≡ s .level k
-    unfolding popped-partner
-    popped-new i same = rw (same, updated-at)
+      popped-new : (i : ℕ) → i ≡ length quanta → popped-partner i ≡ s .level k
+      unfolding popped-partner
+      popped-new i same = rw (same, updated-at)
 
-    popped-old : (i : ℕ) → i < length quanta → popped-partner i ≡ s .partner i
-    unfolding popped-partner
-    popped-old i less = updated-below (s .partner) (length quanta) (s .level k) i less
+      popped-old : (i : ℕ) → i < length quanta → popped-partner i ≡ s .partner i
+      unfolding popped-partner
+      popped-old i less = updated-below (s .partner) (length quanta) (s .level k) i less
 
-    newly-paired : Paired plan more (length quanta) (s .level k)
-    newly-paired =
-        let same = old (s .level k) (top .there) in
-        record {
-          earlier = top .there;
-          efficient = rw same (top .efficient);
-          satisfied = rw same (top .satisfied);
-          wanted = rw (same, new, top .wanted, its-wanted, pow-suc);
-        }
+      newly-paired : Paired plan more (length quanta) (s .level k)
+      newly-paired =
+          let same = old (s .level k) (top .there) in
+          record {
+            earlier = top .there;
+            efficient = rw same (top .efficient);
+            satisfied = rw same (top .satisfied);
+            wanted = rw (same, new, top .wanted, its-wanted, pow-suc);
+          }
 
-    popped-paired : (i : ℕ) → Place i → Paired plan more i (popped-partner i)
-    popped-paired i (before was) = rw (popped-old i (was .0)) (paired-more (was .0) (s .paired i was))
-    popped-paired i (last same inefficient) = rw (popped-new i same, same) newly-paired
+      popped-paired : (i : ℕ) → Place i → Paired plan more i (popped-partner i)
+      popped-paired i (before was) = rw (popped-old i (was .0)) (paired-more (was .0) (s .paired i was))
+      popped-paired i (last same inefficient) = rw (popped-new i same, same) newly-paired
 
-    popped-unshared : (i j : ℕ) → Place i → Place j → popped-partner i ≡ popped-partner j → i ≡ j
-    popped-unshared i j (before x) (before y) same =
-        s .unshared i j x y (sym (popped-old i (x .0)) ∙ same ∙ popped-old j (y .0))
-    popped-unshared i j (before x) (last y e) same =
-        absurd (s .unused i k x (omega arith) (sym (popped-old i (x .0)) ∙ same ∙ popped-new j y))
-    popped-unshared i j (last x e) (before y) same =
-        absurd (s .unused j k y (omega arith) (sym (popped-old j (y .0)) ∙ sym same ∙ popped-new i x))
-    popped-unshared i j (last x e) (last y f) same = omega arith
+      popped-unshared : (i j : ℕ) → Place i → Place j → popped-partner i ≡ popped-partner j → i ≡ j
+      popped-unshared i j (before x) (before y) same =
+          s .unshared i j x y (sym (popped-old i (x .0)) ∙ same ∙ popped-old j (y .0))
+      popped-unshared i j (before x) (last y e) same =
+          absurd (s .unused i k x (omega arith) (sym (popped-old i (x .0)) ∙ same ∙ popped-new j y))
+      popped-unshared i j (last x e) (before y) same =
+          absurd (s .unused j k y (omega arith) (sym (popped-old j (y .0)) ∙ sym same ∙ popped-new i x))
+      popped-unshared i j (last x e) (last y f) same = omega arith
 
-    popped-above-one : (i : ℕ) → Place i → 1 < nth more i .wanted
-    popped-above-one i (before was) = rw (old i (was .0)) (s .above-one i was)
-    popped-above-one i (last same e) =
-        let some : 1 ≤ plan .responsiveness ^ k = one-le-pow k (plan .responsiveness) (omega arith) in
-        let grown : 1 * plan .responsiveness ≤ plan .responsiveness ^ k * plan .responsiveness = mul-le-mul-right (plan .responsiveness) some in
-        let product : q .wanted ≡ plan .responsiveness ^ k * plan .responsiveness = its-wanted ∙ pow-suc _ _ in
-        rw (same, new) (omega (arith, one-mul (plan .responsiveness)))
+      popped-above-one : (i : ℕ) → Place i → 1 < nth more i .wanted
+      popped-above-one i (before was) = rw (old i (was .0)) (s .above-one i was)
+      popped-above-one i (last same e) =
+          let some : 1 ≤ plan .responsiveness ^ k = one-le-pow k (plan .responsiveness) (omega arith) in
+          let grown : 1 * plan .responsiveness ≤ plan .responsiveness ^ k * plan .responsiveness = mul-le-mul-right (plan .responsiveness) some in
+          let product : q .wanted ≡ plan .responsiveness ^ k * plan .responsiveness = its-wanted ∙ pow-suc _ _ in
+          rw (same, new) (omega (arith, one-mul (plan .responsiveness)))
 
-    popped-unused : (i j : ℕ) → Place i → j < k → popped-partner i ≡ s .level j → ⊥
-    popped-unused i j (before x) less same = s .unused i j x (omega arith) (sym (popped-old i (x .0)) ∙ same)
-    popped-unused i j (last x e) less same =
-        omega (arith, s .apart k j (omega arith) (omega arith) (sym (popped-new i x) ∙ same))
+      popped-unused : (i j : ℕ) → Place i → j < k → popped-partner i ≡ s .level j → ⊥
+      popped-unused i j (before x) less same = s .unused i j x (omega arith) (sym (popped-old i (x .0)) ∙ same)
+      popped-unused i j (last x e) less same =
+          omega (arith, s .apart k j (omega arith) (omega arith) (sym (popped-new i x) ∙ same))
 
-    popped : Stacked plan more k
-    popped =
-        record {
-          partner = popped-partner;
-          paired = λ i bad. popped-paired i (place i bad);
-          unshared = λ i j bad worse. popped-unshared i j (place i bad) (place j worse);
-          above-one = λ i bad. popped-above-one i (place i bad);
-          level = s .level;
-          levels = λ j less. level-more (s .levels j (omega arith));
-          apart = λ i j x y. s .apart i j (omega arith) (omega arith);
-          unused = λ i j bad. popped-unused i j (place i bad);
-        }
+      popped : Stacked plan more k
+      popped =
+          record {
+            partner = popped-partner;
+            paired = λ i bad. popped-paired i (place i bad);
+            unshared = λ i j bad worse. popped-unshared i j (place i bad) (place j worse);
+            above-one = λ i bad. popped-above-one i (place i bad);
+            level = s .level;
+            levels = λ j less. level-more (s .levels j (omega arith));
+            apart = λ i j x y. s .apart i j (omega arith) (omega arith);
+            unused = λ i j bad. popped-unused i j (place i bad);
+          }
 
   -- the stack after any end of a quantum
   pub stacked-end : (usage k after : ℕ) → 2 ≤ plan .responsiveness → q .wanted ≡ plan .responsiveness ^ k → QuantumEnd plan q usage k after →

@@ -3,19 +3,18 @@
 -- Assumes of a tick with a worker granted that it does a work or mug cycle (progress).
 use mathlib.Core.Path.{_≡_, refl, sym, ap, _∙_}
 use mathlib.Core.Bool.{Bool, true, false, cond, not, _&&_}
-use mathlib.Core.List.{List, [], _∷_, _++_}
-use Prim.Native.Nat.{ℕ, zero, suc, _+_, _*_, _/_, _^_, _≤_, _<_}
+use mathlib.Core.List.{List, [], _∷_}
+use Prim.Native.Nat.{ℕ, zero, suc, _*_, _/_, _^_, _≤_, _<_}
 use native.Mathlib.Omega.{arith}
 use native.Mathlib.Nat.{pow-zero, pow-suc, mul-zero, mul-one, mul-div-cancel, mul-le-mul-right, le-mul-of-pos-right}
-use lib.Dec.{leb, ltb, eqb}
-use lib.ListN.{length}
+use lib.Dec.{leb}
 use borrow.Author.Tests.{leb-true, leb-false, eqb-true}
 use Rattle.model.specs.Plan.{Plan}
 use Rattle.model.specs.Machine.{State, Quantum, idle, opened, allotment, finished, no-quantum-open, ticks-of, fresh, grant, cycles, ticked, closes, closed, efficient, satisfied, efficient-now, satisfied-now, next-desire, most-workers}
-use Rattle.model.specs.History.{History, ClosedQuantum, CurrentQuantum, none, begun-with, verdict, beginning, history-grant}
+use Rattle.model.specs.History.{History, ClosedQuantum, none, begun-with, verdict, beginning, history-grant}
 use Rattle.model.specs.Statements.{SoundPlan}
 use Rattle.laws.proofs.Runs.{GrantAsked, TickAsked, history-ticked, history-closed}
-use Rattle.laws.proofs.Counting.{spent, Counted, cycles-counted, granted}
+use Rattle.laws.proofs.Counting.{spent, cycles-counted, granted}
 
 -- ---- the open quantum
 
@@ -68,8 +67,8 @@ module _ (plan : Plan) (choices : List ℕ) (h : History) (asked : TickAsked cho
         no-more = omega arith;
         used =
             λ some.
-              let had : 1 ≤ allotment (h .state) = omega arith in
-              omega (arith, moves had, w .used had);
+            let had : 1 ≤ allotment (h .state) = omega arith in
+            omega (arith, moves had, w .used had);
       }
 
   pub phase-ticked : Phase h → Phase (history-ticked plan choices h)
@@ -154,50 +153,51 @@ one-efficient plan sound (suc (suc more)) usage few used = absurd (omega arith)
 module _ (plan : Plan) (sound : SoundPlan plan) (s : State)
     (no-more : allotment s ≤ s .desire)
     (used : 1 ≤ allotment s → plan .quantum-length ≤ s .execution .counts .usage)
-    where
-  -- the desire after the end, by how it ended
-  Next : Bool → Bool → ℕ → Type 0
-  Next was-efficient was-satisfied k =
-      (after : ℕ)
-      × Power plan (next-desire plan (s .desire) was-efficient was-satisfied) after
-      × QuantumEnd plan (ending plan s) (s .execution .counts .usage) k after
+  where
+    -- the desire after the end, by how it ended
+    Next : Bool → Bool → ℕ → Type 0
+    Next was-efficient was-satisfied k =
+        (after : ℕ)
+        × Power plan (next-desire plan (s .desire) was-efficient was-satisfied) after
+        × QuantumEnd plan (ending plan s) (s .execution .counts .usage) k after
 
-  enough : efficient-now plan s ≡ true → plan .utilization * plan .quantum-length * allotment s ≤ 100 * s .execution .counts .usage
-  unfolding efficient
-  enough is-efficient = leb-true _ _ is-efficient
+    enough : efficient-now plan s ≡ true → plan .utilization * plan .quantum-length * allotment s ≤ 100 * s .execution .counts .usage
+    unfolding efficient
+    enough is-efficient = leb-true _ _ is-efficient
 
-  lowered-end : (k : ℕ) (sat : Bool) → Power plan (s .desire) k → efficient-now plan s ≡ false → Next false sat k
-  unfolding Next next-desire efficient
-  lowered-end zero sat p inefficient =
-      let one : s .desire ≡ 1 = p .is-power ∙ pow-zero _ in
-      let short : 100 * s .execution .counts .usage < plan .utilization * plan .quantum-length * allotment s = leb-false _ _ inefficient in
-      absurd (omega (arith, one-efficient plan sound (allotment s) (s .execution .counts .usage) (omega arith) used))
-  lowered-end (suc k) sat p inefficient =
-      let product : s .desire ≡ plan .responsiveness ^ k * plan .responsiveness = p .is-power ∙ pow-suc _ _ in
-      let some : 0 < plan .responsiveness = omega (arith, sound .responsive) in
-      let divided : s .desire / plan .responsiveness ≡ plan .responsiveness ^ k = rw product (mul-div-cancel _ some) in
-      (k, record { is-power = divided; at-most = omega (arith, p .at-most, le-mul-of-pos-right (plan .responsiveness ^ k) some) }, lowers inefficient)
+    lowered-end : (k : ℕ) (sat : Bool) → Power plan (s .desire) k → efficient-now plan s ≡ false → Next false sat k
+    unfolding Next next-desire efficient
+    lowered-end zero sat p inefficient =
+        let one : s .desire ≡ 1 = p .is-power ∙ pow-zero _ in
+        let short : 100 * s .execution .counts .usage < plan .utilization * plan .quantum-length * allotment s = leb-false _ _ inefficient in
+        absurd (omega (arith, one-efficient plan sound (allotment s) (s .execution .counts .usage) (omega arith) used))
+    lowered-end (suc k) sat p inefficient =
+        let product : s .desire ≡ plan .responsiveness ^ k * plan .responsiveness = p .is-power ∙ pow-suc _ _ in
+        let some : 0 < plan .responsiveness = omega (arith, sound .responsive) in
+        let divided : s .desire / plan .responsiveness ≡ plan .responsiveness ^ k = rw product (mul-div-cancel _ some) in
+        (k, record { is-power = divided; at-most = omega (arith, p .at-most, le-mul-of-pos-right (plan .responsiveness ^ k) some) }, lowers inefficient)
 
-  raised-end : (k : ℕ) (room : Bool) → leb (s .desire * plan .responsiveness) most-workers ≡ room → Power plan (s .desire) k →
-      efficient-now plan s ≡ true → satisfied-now s ≡ true →
-      (after : ℕ)
-      × Power plan (cond room (s .desire * plan .responsiveness) (s .desire)) after
-      × QuantumEnd plan (ending plan s) (s .execution .counts .usage) k after
-  unfolding satisfied
-  raised-end k true room p is-efficient is-satisfied =
-      (suc k,
+    raised-end : (k : ℕ) (room : Bool) → leb (s .desire * plan .responsiveness) most-workers ≡ room → Power plan (s .desire) k →
+        efficient-now plan s ≡ true → satisfied-now s ≡ true →
+        (after : ℕ)
+        × Power plan (cond room (s .desire * plan .responsiveness) (s .desire)) after
+        × QuantumEnd plan (ending plan s) (s .execution .counts .usage) k after
+    unfolding satisfied
+    raised-end k true room p is-efficient is-satisfied = (
+      suc k,
       record { is-power = rw (p .is-power) (sym (pow-suc _ _)); at-most = leb-true _ _ room },
-      raises is-efficient is-satisfied (eqb-true _ _ is-satisfied) (enough is-efficient))
-  raised-end k false room p is-efficient is-satisfied = (k, p, stays is-efficient (enough is-efficient))
+      raises is-efficient is-satisfied (eqb-true _ _ is-satisfied) (enough is-efficient),
+    )
+    raised-end k false room p is-efficient is-satisfied = (k, p, stays is-efficient (enough is-efficient))
 
-  next-end : (eff sat : Bool) (k : ℕ) → efficient-now plan s ≡ eff → satisfied-now s ≡ sat → Power plan (s .desire) k → Next eff sat k
-  unfolding Next next-desire
-  next-end false sat k e f p = lowered-end k sat p e
-  next-end true true k e f p = raised-end k _ refl p e f
-  next-end true false k e f p = (k, p, stays e (enough e))
+    next-end : (eff sat : Bool) (k : ℕ) → efficient-now plan s ≡ eff → satisfied-now s ≡ sat → Power plan (s .desire) k → Next eff sat k
+    unfolding Next next-desire
+    next-end false sat k e f p = lowered-end k sat p e
+    next-end true true k e f p = raised-end k _ refl p e f
+    next-end true false k e f p = (k, p, stays e (enough e))
 
-  pub ended : (k : ℕ) → Power plan (s .desire) k → Ended plan s k
-  unfolding closed Next
-  ended k p =
-      let next = next-end (efficient-now plan s) (satisfied-now s) k refl refl p in
-      record { after = next .0; power = next .1; end = next .2 }
+    pub ended : (k : ℕ) → Power plan (s .desire) k → Ended plan s k
+    unfolding closed Next
+    ended k p =
+        let next = next-end (efficient-now plan s) (satisfied-now s) k refl refl p in
+        record { after = next .0; power = next .1; end = next .2 }

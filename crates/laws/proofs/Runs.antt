@@ -2,18 +2,18 @@
 -- refused call is no step. So what holds at the beginning, and is kept by an accepted grant, by a tick's cycles and by a quantum's end,
 -- holds after every list of calls.
 -- Assumes nothing.
-use mathlib.Core.Path.{_≡_, refl, subst}
-use mathlib.Core.Bool.{Bool, true, false, cond, not, _&&_}
+use mathlib.Core.Path.{_≡_, refl}
+use mathlib.Core.Bool.{Bool, true, false, cond}
 use mathlib.Core.List.{List, [], _∷_, _++_}
 use Prim.Native.Nat.{ℕ, _<_, _≤_}
-use lib.Dec.{leb, ltb, eqb}
+use lib.Dec.{ltb}
 use lib.ListN.{length}
 use borrow.Author.Tests.{ltb-true, leb-true, eqb-true, not-true}
 use Rattle.model.specs.Tests.{every}
 use Rattle.model.specs.Questions.{Question, Answer, accepted, refused, first-no, by-answer}
 use Rattle.model.specs.Plan.{Plan}
 use Rattle.model.specs.Machine.{State, Call, grants, ticks, call-answer, allotment, finished, quantum-limit, no-quantum-open, closes, closed, ticked, tick, grant-questions, tick-questions, cycles, cycles-made}
-use Rattle.model.specs.History.{History, none, verdict, beginning, history-grant, history-tick, history-moved, history-step, run, run-from}
+use Rattle.model.specs.History.{History, none, verdict, beginning, history-grant, history-tick, history-step, run, run-from}
 
 -- ---- one call more
 
@@ -31,16 +31,16 @@ run-snoc plan calls call = run-from-snoc plan (beginning plan) calls call
 -- what the steps from the histories that are reached keep
 module _ (plan : Plan) (P : History → Type 0)
     (kept : (calls : List Call) (call : Call) → P (run plan calls) → P (history-step plan call (run plan calls)))
-    where
-  onward : (done calls : List Call) → P (run plan done) → P (run-from plan (run plan done) calls)
-  unfolding run-from
-  onward done [] p = p
-  onward done (call ∷ calls) p =
-      rw (← run-snoc plan done call) (onward (done ++ call ∷ []) calls (rw run-snoc (kept done call p)))
+  where
+    onward : (done calls : List Call) → P (run plan done) → P (run-from plan (run plan done) calls)
+    unfolding run-from
+    onward done [] p = p
+    onward done (call ∷ calls) p =
+        rw (← run-snoc plan done call) (onward (done ++ call ∷ []) calls (rw run-snoc (kept done call p)))
 
-  pub by-steps : P (beginning plan) → (calls : List Call) → P (run plan calls)
-  unfolding run run-from
-  by-steps start calls = onward [] calls start
+    pub by-steps : P (beginning plan) → (calls : List Call) → P (run plan calls)
+    unfolding run run-from
+    by-steps start calls = onward [] calls start
 
 -- ---- what an accepted call has been asked
 
@@ -168,29 +168,29 @@ step-execution plan choices h answer = rw answer (tick-execution plan choices (h
 module _ (plan : Plan) (P : History → Type 0)
     (start : P (beginning plan))
     (grant-keeps : (calls : List Call) (g : ℕ) → call-answer (grants g) (run plan calls .state) ≡ accepted → P (run plan calls) →
-        P (history-grant g (run plan calls)))
-    where
-  module _
-      (tick-keeps : (calls : List Call) (choices : List ℕ) → call-answer (ticks choices) (run plan calls .state) ≡ accepted →
-          P (run plan calls) → P (history-tick plan choices (run plan calls)))
+    P (history-grant g (run plan calls)))
+  where
+    module _
+        (tick-keeps : (calls : List Call) (choices : List ℕ) → call-answer (ticks choices) (run plan calls .state) ≡ accepted →
+        P (run plan calls) → P (history-tick plan choices (run plan calls)))
       where
-    accepted-keeps : (calls : List Call) (call : Call) → P (run plan calls) → P (history-step plan call (run plan calls))
-    unfolding history-step
-    accepted-keeps calls (grants g) p =
-        by-answers (call-answer (grants g) (run plan calls .state)) P _ _ (λ answer. grant-keeps calls g answer p) p
-    accepted-keeps calls (ticks choices) p =
-        by-answers (call-answer (ticks choices) (run plan calls .state)) P _ _ (λ answer. tick-keeps calls choices answer p) p
+        accepted-keeps : (calls : List Call) (call : Call) → P (run plan calls) → P (history-step plan call (run plan calls))
+        unfolding history-step
+        accepted-keeps calls (grants g) p =
+            by-answers (call-answer (grants g) (run plan calls .state)) P _ _ (λ answer. grant-keeps calls g answer p) p
+        accepted-keeps calls (ticks choices) p =
+            by-answers (call-answer (ticks choices) (run plan calls .state)) P _ _ (λ answer. tick-keeps calls choices answer p) p
 
-    pub by-accepted-calls : (calls : List Call) → P (run plan calls)
-    by-accepted-calls = by-steps plan P accepted-keeps start
+        pub by-accepted-calls : (calls : List Call) → P (run plan calls)
+        by-accepted-calls = by-steps plan P accepted-keeps start
 
-  -- the same, with the tick in its two parts
-  pub by-moves :
-      ((calls : List Call) (choices : List ℕ) → call-answer (ticks choices) (run plan calls .state) ≡ accepted → P (run plan calls) →
-          P (history-ticked plan choices (run plan calls))) →
-      ((h : History) → closes plan (h .state) ≡ true → P h → P (history-closed plan h)) → (calls : List Call) → P (run plan calls)
-  by-moves cycles-keep end-keeps =
-      by-accepted-calls
-      (λ calls choices answer p.
+    -- the same, with the tick in its two parts
+    pub by-moves :
+        ((calls : List Call) (choices : List ℕ) → call-answer (ticks choices) (run plan calls .state) ≡ accepted → P (run plan calls) →
+        P (history-ticked plan choices (run plan calls))) →
+        ((h : History) → closes plan (h .state) ≡ true → P h → P (history-closed plan h)) → (calls : List Call) → P (run plan calls)
+    by-moves cycles-keep end-keeps =
+        by-accepted-calls
+        (λ calls choices answer p.
         let q = cycles-keep calls choices answer p in
         tick-moves plan P choices (run plan calls) q (λ closing. end-keeps _ closing q))
