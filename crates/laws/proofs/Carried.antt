@@ -1,7 +1,7 @@
 -- What one induction over the list of calls carries for demand 3: the open quantum agrees with the state, the desire is a power of the
 -- responsiveness, the stack of unused quanta has one for each power below it, and the balance of the mugs holds at that power.
 -- Assumes a sound plan, and progress after every list of calls.
-use mathlib.Core.Path.{_≡_, sym}
+use mathlib.Core.Path.{_≡_, sym, ap}
 use mathlib.Core.Bool.{true}
 use mathlib.Core.List.{List}
 use Prim.Native.Nat.{ℕ}
@@ -9,10 +9,10 @@ use native.Mathlib.Omega.{arith}
 use native.Mathlib.Nat.{pow-zero}
 use Rattle.model.specs.Questions.{accepted}
 use Rattle.model.specs.Plan.{Plan}
-use Rattle.model.specs.Machine.{Call, grants, ticks, call-answer, fresh, grant, ticked, closes}
+use Rattle.model.specs.Machine.{Call, grants, ticks, call-answer, no-quantum-open, fresh, grant, ticked, closes}
 use Rattle.model.specs.History.{History, beginning, history-grant, run}
 use Rattle.model.specs.Statements.{SoundPlan, Progress}
-use Rattle.laws.proofs.Runs.{grant-asked, tick-asked, history-ticked, history-closed, step-execution, by-moves}
+use Rattle.laws.proofs.Runs.{grant-accepted, tick-accepted, history-ticked, history-closed, step-execution, by-moves}
 use Rattle.laws.proofs.Powers.{Phase, phase-start, phase-granted, phase-ticked, phase-closed, Progressing, ending, at-end, Power, ended}
 use Rattle.laws.proofs.PairingLaw.{Stacked, stacked-none, stacked-end}
 use Rattle.laws.proofs.MugLimitLaw.{Balance, balance-start, balance-granted, balance-ticked, balance-closed}
@@ -39,13 +39,13 @@ module _ (plan : Plan) (sound : SoundPlan plan) where
   carried-granted : (g : ℕ) (h : History) → call-answer (grants g) (h .state) ≡ accepted → Carried plan h → Carried plan (history-grant g h)
   unfolding history-grant grant
   carried-granted g h answer c =
-      let asked = grant-asked g (h .state) answer in
+      let asked = grant-accepted g (h .state) answer in
       record {
         phase = phase-granted g h asked;
         power = c .power;
         desire = c .desire;
         stack = c .stack;
-        balance = balance-granted plan (h .state) (h .closed-quanta) (c .power) (c .balance) g (asked .none-open);
+        balance = balance-granted plan (h .state) (h .closed-quanta) (c .power) (c .balance) g (ap no-quantum-open (asked .idle-quantum));
       }
 
   progressing : (choices : List ℕ) (h : History) → Progress plan h → call-answer (ticks choices) (h .state) ≡ accepted →
@@ -57,13 +57,13 @@ module _ (plan : Plan) (sound : SoundPlan plan) where
       Carried plan h → Carried plan (history-ticked plan choices h)
   unfolding ticked
   carried-ticked choices h progress answer c =
-      let asked = tick-asked choices (h .state) answer in
+      let asked = tick-accepted choices (h .state) answer in
       record {
         phase = phase-ticked plan choices h asked (progressing choices h progress answer) (c .phase);
         power = c .power;
         desire = c .desire;
         stack = c .stack;
-        balance = balance-ticked plan (h .state) (h .closed-quanta) (c .power) (c .balance) choices (asked .one-open);
+        balance = balance-ticked plan (h .state) (h .closed-quanta) (c .power) (c .balance) choices (ap no-quantum-open (asked .open-quantum));
       }
 
   carried-closed : (h : History) → closes plan (h .state) ≡ true → Carried plan h → Carried plan (history-closed plan h)

@@ -10,10 +10,10 @@ use native.Mathlib.Nat.{pow-zero, pow-suc, mul-zero, mul-one, mul-div-cancel, mu
 use lib.Dec.{leb}
 use borrow.Author.Tests.{leb-true, leb-false, eqb-true}
 use Rattle.model.specs.Plan.{Plan}
-use Rattle.model.specs.Machine.{State, Quantum, idle, opened, allotment, finished, no-quantum-open, ticks-of, fresh, grant, cycles, ticked, closes, closed, efficient, satisfied, efficient-now, satisfied-now, next-desire, most-workers}
+use Rattle.model.specs.Machine.{State, idle, opened, allotment, finished, no-quantum-open, ticks-of, fresh, grant, cycles, ticked, closes, closed, efficient, satisfied, efficient-now, satisfied-now, next-desire, most-workers}
 use Rattle.model.specs.History.{History, ClosedQuantum, none, begun-with, verdict, beginning, history-grant}
 use Rattle.model.specs.Statements.{SoundPlan}
-use Rattle.laws.proofs.Runs.{GrantAsked, TickAsked, history-ticked, history-closed}
+use Rattle.laws.proofs.Runs.{GrantAccepted, TickAccepted, history-ticked, history-closed}
 use Rattle.laws.proofs.Counting.{spent, cycles-counted, granted}
 
 -- ---- the open quantum
@@ -34,7 +34,7 @@ pub phase-start : (plan : Plan) → Phase (beginning plan)
 unfolding beginning fresh
 phase-start plan = between refl refl
 
-pub phase-granted : (g : ℕ) (h : History) → GrantAsked g (h .state) → Phase (history-grant g h)
+pub phase-granted : (g : ℕ) (h : History) → GrantAccepted g (h .state) → Phase (history-grant g h)
 unfolding history-grant grant
 phase-granted g h asked =
     let there = granted g (h .state) in
@@ -50,13 +50,7 @@ phase-granted g h asked =
 abbrev pub Progressing : Plan → List ℕ → State → Type 0
 Progressing plan choices s = 1 ≤ allotment s → spent (s .execution) < spent (cycles plan 0 choices (s .execution))
 
-open-not-idle : (q : Quantum) → no-quantum-open q ≡ false → q ≡ idle → ⊥
-open-not-idle q is-open is-idle =
-    let same : no-quantum-open q ≡ true = ap no-quantum-open is-idle in
-    let z : _≡_ {A = ℕ} 0 1 = cc in
-    omega arith
-
-module _ (plan : Plan) (choices : List ℕ) (h : History) (asked : TickAsked choices (h .state)) (moves : Progressing plan choices (h .state)) where
+module _ (plan : Plan) (choices : List ℕ) (h : History) (asked : TickAccepted choices (h .state)) (moves : Progressing plan choices (h .state)) where
   within-ticked : (t : ℕ) → Within h t → Within (history-ticked plan choices h) (suc t)
   unfolding ticked
   within-ticked t w =
@@ -72,7 +66,10 @@ module _ (plan : Plan) (choices : List ℕ) (h : History) (asked : TickAsked cho
       }
 
   pub phase-ticked : Phase h → Phase (history-ticked plan choices h)
-  phase-ticked (between is-idle no-current) = absurd (open-not-idle _ (asked .one-open) is-idle)
+  phase-ticked (between is-idle no-current) =
+      let opens : opened _ ≡ idle = sym (asked .open-quantum) ∙ is-idle in
+      let z : _≡_ {A = ℕ} 0 1 = cc in
+      absurd (omega arith)
   phase-ticked (within t w) = within (suc t) (within-ticked t w)
 
 pub phase-closed : (plan : Plan) (h : History) → Phase (history-closed plan h)

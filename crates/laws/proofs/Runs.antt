@@ -3,16 +3,16 @@
 -- holds after every list of calls.
 -- Assumes nothing.
 use mathlib.Core.Path.{_≡_, refl}
-use mathlib.Core.Bool.{Bool, true, false, cond}
+use mathlib.Core.Bool.{Bool, true, false, cond, not}
 use mathlib.Core.List.{List, [], _∷_, _++_}
 use Prim.Native.Nat.{ℕ, _<_, _≤_}
-use lib.Dec.{ltb}
+use lib.Dec.{leb, ltb, eqb}
 use lib.ListN.{length}
 use borrow.Author.Tests.{ltb-true, leb-true, eqb-true, not-true}
 use Rattle.model.specs.Tests.{every}
-use Rattle.model.specs.Questions.{Question, Answer, accepted, refused, first-no, by-answer}
+use Rattle.model.specs.Questions.{Answer, accepted, refused, first-no, by-answer}
 use Rattle.model.specs.Plan.{Plan}
-use Rattle.model.specs.Machine.{State, Call, grants, ticks, call-answer, allotment, finished, quantum-limit, no-quantum-open, closes, closed, ticked, tick, grant-questions, tick-questions, cycles, cycles-made}
+use Rattle.model.specs.Machine.{State, Quantum, idle, opened, ticks-of, Call, grants, ticks, call-answer, allotment, finished, quantum-limit, no-quantum-open, closes, closed, ticked, tick, grant-questions, tick-questions, cycles, cycles-made}
 use Rattle.model.specs.History.{History, none, verdict, beginning, history-grant, history-tick, history-step, run, run-from}
 
 -- ---- one call more
@@ -44,65 +44,59 @@ module _ (plan : Plan) (P : History → Type 0)
 
 -- ---- what an accepted call has been asked
 
-by-answers : (answer : Answer) (P : History → Type 0) (new old : History) → (answer ≡ accepted → P new) → P old → P (by-answer answer new old)
-by-answers accepted P new old moves stays = moves refl
-by-answers (refused n) P new old moves stays = stays
+-- a question that does not refuse
+answered : (b : Bool) (rest : Answer) (n : ℕ) → cond b rest (refused n) ≡ accepted → (b ≡ true) × (rest ≡ accepted)
+answered true rest n answer = (refl, answer)
+answered false rest n answer = (cc, cc)
 
--- every question of an accepted list was answered by yes
-first-yes : (q : Question) (qs : List Question) → first-no (q ∷ qs) ≡ accepted → q .holds ≡ true
-unfolding first-no
-first-yes q qs answer = go (q .holds) answer
-  where
-    go : (b : Bool) → cond b (first-no qs) (refused (q .number)) ≡ accepted → b ≡ true
-    go true e = refl
-    go false e = cc
+is-idle : (q : Quantum) → no-quantum-open q ≡ true → q ≡ idle
+is-idle idle none-open = refl
+is-idle (opened t) none-open = cc
 
-later-yes : (q : Question) (qs : List Question) → first-no (q ∷ qs) ≡ accepted → first-no qs ≡ accepted
-unfolding first-no
-later-yes q qs answer = go (q .holds) answer
-  where
-    go : (b : Bool) → cond b (first-no qs) (refused (q .number)) ≡ accepted → first-no qs ≡ accepted
-    go true e = e
-    go false e = cc
+is-opened : (q : Quantum) → no-quantum-open q ≡ false → q ≡ opened (ticks-of q)
+is-opened idle one-open = cc
+is-opened (opened t) one-open = refl
 
 -- 11 to 14
-pub record GrantAsked (g : ℕ) (s : State) : Type 0 where
+pub record GrantAccepted (g : ℕ) (s : State) : Type 0 where
   pub unfinished : finished (s .execution) ≡ false
-  pub none-open : no-quantum-open (s .quantum) ≡ true
-  pub few-begun : s .begun < quantum-limit
+  pub idle-quantum : s .quantum ≡ idle
+  pub more-quanta : s .begun < quantum-limit
   pub wanted : g ≤ s .desire
 
-pub grant-asked : (g : ℕ) (s : State) → call-answer (grants g) s ≡ accepted → GrantAsked g s
-unfolding call-answer grant-questions
-grant-asked g s answer =
-    let later = later-yes _ _ answer in
-    let later₂ = later-yes _ _ later in
-    let later₃ = later-yes _ _ later₂ in
+pub grant-accepted : (g : ℕ) (s : State) → call-answer (grants g) s ≡ accepted → GrantAccepted g s
+unfolding call-answer grant-questions first-no
+grant-accepted g s answer =
+    let first = answered (not (finished (s .execution))) _ 11 answer in
+    let second = answered (no-quantum-open (s .quantum)) _ 12 (first .1) in
+    let third = answered (ltb (s .begun) quantum-limit) _ 13 (second .1) in
+    let fourth = answered (leb g (s .desire)) _ 14 (third .1) in
     record {
-      unfinished = not-true _ (first-yes _ _ answer);
-      none-open = first-yes _ _ later;
-      few-begun = ltb-true _ _ (first-yes _ _ later₂);
-      wanted = leb-true _ _ (first-yes _ _ later₃);
+      unfinished = not-true _ (first .0);
+      idle-quantum = is-idle _ (second .0);
+      more-quanta = ltb-true _ _ (third .0);
+      wanted = leb-true _ _ (fourth .0);
     }
 
 -- 11 and 15 to 17
-pub record TickAsked (choices : List ℕ) (s : State) : Type 0 where
+pub record TickAccepted (choices : List ℕ) (s : State) : Type 0 where
   pub unfinished : finished (s .execution) ≡ false
-  pub one-open : no-quantum-open (s .quantum) ≡ false
-  pub a-choice-each : length choices ≡ allotment s
-  pub choices-below : every (λ choice. ltb choice (allotment s)) choices ≡ true
+  pub open-quantum : s .quantum ≡ opened (ticks-of (s .quantum))
+  pub one-each : length choices ≡ allotment s
+  pub below-allotment : every (λ choice. ltb choice (allotment s)) choices ≡ true
 
-pub tick-asked : (choices : List ℕ) (s : State) → call-answer (ticks choices) s ≡ accepted → TickAsked choices s
-unfolding call-answer tick-questions
-tick-asked choices s answer =
-    let later = later-yes _ _ answer in
-    let later₂ = later-yes _ _ later in
-    let later₃ = later-yes _ _ later₂ in
+pub tick-accepted : (choices : List ℕ) (s : State) → call-answer (ticks choices) s ≡ accepted → TickAccepted choices s
+unfolding call-answer tick-questions first-no
+tick-accepted choices s answer =
+    let first = answered (not (finished (s .execution))) _ 11 answer in
+    let second = answered (not (no-quantum-open (s .quantum))) _ 15 (first .1) in
+    let third = answered (eqb (length choices) (allotment s)) _ 16 (second .1) in
+    let fourth = answered (every (λ choice. ltb choice (allotment s)) choices) _ 17 (third .1) in
     record {
-      unfinished = not-true _ (first-yes _ _ answer);
-      one-open = not-true _ (first-yes _ _ later);
-      a-choice-each = eqb-true _ _ (first-yes _ _ later₂);
-      choices-below = first-yes _ _ later₃;
+      unfinished = not-true _ (first .0);
+      open-quantum = is-opened _ (not-true _ (second .0));
+      one-each = eqb-true _ _ (third .0);
+      below-allotment = fourth .0;
     }
 
 -- ---- the three moves
@@ -162,6 +156,11 @@ pub step-execution : (plan : Plan) (choices : List ℕ) (h : History) → call-a
     history-step plan (ticks choices) h .state .execution ≡ cycles plan 0 choices (h .state .execution)
 unfolding history-step history-tick
 step-execution plan choices h answer = rw answer (tick-execution plan choices (h .state))
+
+-- where a call is refused the history stays
+by-answers : (answer : Answer) (P : History → Type 0) (new old : History) → (answer ≡ accepted → P new) → P old → P (by-answer answer new old)
+by-answers accepted P new old moves stays = moves refl
+by-answers (refused n) P new old moves stays = stays
 
 -- what holds at the beginning, and is kept by an accepted grant and by an accepted tick from the histories that are reached, holds after
 -- every list of calls
