@@ -4,3 +4,4 @@ pub mod Readiness
 pub mod Cycles
 pub mod Placement
 pub mod Bounds
+pub mod Steps
