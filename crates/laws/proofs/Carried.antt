@@ -12,7 +12,8 @@ use Rattle.model.specs.Plan.{Plan}
 use Rattle.model.specs.Machine.{Call, grants, ticks, call-answer, no-quantum-open, fresh, grant, ticked, closes}
 use Rattle.model.specs.History.{History, beginning, history-grant, run}
 use Rattle.model.specs.Statements.{SoundPlan, Progress}
-use Rattle.laws.proofs.Runs.{grant-accepted, tick-accepted, history-ticked, history-closed, step-execution, by-moves}
+use Rattle.laws.proofs.Steps.{grant-accepted, tick-accepted}
+use Rattle.laws.proofs.Runs.{history-ticked, history-closed, step-execution, by-moves}
 use Rattle.laws.proofs.Powers.{Phase, phase-start, phase-granted, phase-ticked, phase-closed, Progressing, ending, at-end, Power, ended}
 use Rattle.laws.proofs.PairingLaw.{Stacked, stacked-none, stacked-end}
 use Rattle.laws.proofs.MugLimitLaw.{Balance, balance-start, balance-granted, balance-ticked, balance-closed}

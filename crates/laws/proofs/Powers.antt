@@ -13,7 +13,8 @@ use Rattle.model.specs.Plan.{Plan}
 use Rattle.model.specs.Machine.{State, idle, opened, allotment, finished, no-quantum-open, ticks-of, fresh, grant, cycles, ticked, closes, closed, efficient, satisfied, efficient-now, satisfied-now, next-desire, most-workers}
 use Rattle.model.specs.History.{History, ClosedQuantum, none, begun-with, verdict, beginning, history-grant}
 use Rattle.model.specs.Statements.{SoundPlan}
-use Rattle.laws.proofs.Runs.{GrantAccepted, TickAccepted, history-ticked, history-closed}
+use Rattle.laws.proofs.Steps.{GrantAccepted, TickAccepted}
+use Rattle.laws.proofs.Runs.{history-ticked, history-closed}
 use Rattle.laws.proofs.Counting.{spent, cycles-counted, granted}
 
 -- ---- the open quantum
