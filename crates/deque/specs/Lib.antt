@@ -1,0 +1,3 @@
+-- What the arrays and numbers of a job show, and when they are sound.
+pub mod View
+pub mod Sound
