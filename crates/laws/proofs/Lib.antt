@@ -1,1 +1,5 @@
 -- The proofs, by topic.
+pub mod Lists
+pub mod Readiness
+pub mod Cycles
+pub mod Placement
