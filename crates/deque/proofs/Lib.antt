@@ -1,0 +1,3 @@
+-- The proofs, by topic.
+pub mod Walks
+pub mod Releases

@@ -1,0 +1,94 @@
+-- What the arrays and numbers of a job show: the graph of its plan, and the execution that the workers' cycles move.
+-- Every function here takes plain lists, the arrays' elements.
+use mathlib.Core.Bool.{Bool, cond}
+use mathlib.Core.List.{List, [], _∷_, map}
+use Prim.Native.Nat.{ℕ, zero, suc, _+_, _%_}
+use lib.Dec.{eqb}
+use lib.ListN.{getD, set}
+use Rattle.model.specs.Tests.{below}
+use Rattle.model.specs.Plan.{Plan}
+use Rattle.model.specs.Machine.{Execution, Counts}
+use Rattle.deque.specs.declared.Numbers.{Numbers}
+
+-- ---- the plan's graph
+
+-- the successors that two fields show; 0 is an unused field, since no successor is task 0
+unfoldable pub shown : ℕ → ℕ → List ℕ
+shown first second = cond (eqb first 0) [] (cond (eqb second 0) (first ∷ []) (first ∷ second ∷ []))
+
+-- the successors of the task t
+unfoldable pub successors-at : List ℕ → List ℕ → ℕ → List ℕ
+successors-at first second t = shown (getD first t 0) (getD second t 0)
+
+-- those of each task below n
+unfoldable pub successors-view : List ℕ → List ℕ → ℕ → List (List ℕ)
+successors-view first second n = map (successors-at first second) (below n)
+
+-- a plan with these successors. A cycle reads nothing else of a plan, so R, D and L are the least that a plan may have.
+abbrev pub graph-plan : List (List ℕ) → Plan
+graph-plan successors = record { responsiveness = 2; utilization = 1; quantum-length = 1; successors = successors }
+
+abbrev pub graph : List ℕ → List ℕ → ℕ → Plan
+graph first second n = graph-plan (successors-view first second n)
+
+-- ---- the deques
+
+-- the deque of so many tasks that starts at a front: the front, the task that its link names, and so on. Links past the size are ignored.
+unfoldable pub walk : List ℕ → ℕ → ℕ → List ℕ
+walk next front zero = []
+walk next front (suc size) = front ∷ walk next (getD next front 0) size
+
+-- A deque has a place, of which `ends` holds the front at the place itself and the size 128 further on. Places 0 to 63 are the workers',
+-- by number; 64 to 127 are a ring for the muggable deques.
+abbrev pub size-at : ℕ → ℕ
+size-at place = 128 + place
+
+unfoldable pub deque-at : List ℕ → List ℕ → ℕ → List ℕ
+deque-at next ends place = walk next (getD ends place 0) (getD ends (size-at place) 0)
+
+-- `ends` after a front and a size were put at a place
+abbrev pub put-deque : List ℕ → ℕ → ℕ → ℕ → List ℕ
+put-deque ends place front size = set (set ends place front) (size-at place) size
+
+-- the first k workers' deques
+unfoldable pub deques-view : List ℕ → List ℕ → ℕ → List (List ℕ)
+deques-view next ends k = map (deque-at next ends) (below k)
+
+-- the place of the muggable deque that is the i-th oldest, counted from 0, where the oldest is the ring's entry `head`
+abbrev pub ring-place : ℕ → ℕ → ℕ
+ring-place head i = 64 + (head + i) % 64
+
+-- the muggable deques, of which so many wait, oldest first
+unfoldable pub muggable-view : List ℕ → List ℕ → ℕ → ℕ → List (List ℕ)
+muggable-view next ends head waiting = map (λ i. deque-at next ends (ring-place head i)) (below waiting)
+
+-- ---- the worked tasks
+
+-- what `pending` holds of a worked task; of another one it holds the number of its predecessors that are not worked
+abbrev pub worked-mark : ℕ
+worked-mark = 3
+
+-- of each task below n: it is worked
+unfoldable pub worked-view : List ℕ → ℕ → List Bool
+worked-view pending n = map (λ t. eqb (getD pending t 0) worked-mark) (below n)
+
+-- ---- the execution
+
+abbrev pub counts-view : Numbers → Counts
+counts-view m =
+    record {
+      works = record { work = m .works .0 };
+      mugs = record { mug = m .mugs .0 };
+      steals = record { steal = m .steals .0 };
+      successes = m .successes;
+      usage = m .usage;
+    }
+
+unfoldable pub view : List ℕ → List ℕ → List ℕ → Numbers → Execution
+view pending next ends m =
+    record {
+      worked = worked-view pending (m .tasks);
+      deques = deques-view next ends (m .workers);
+      muggable = muggable-view next ends (m .head) (m .waiting);
+      counts = counts-view m;
+    }
