@@ -5,3 +5,5 @@ pub mod Cycles
 pub mod Placement
 pub mod Bounds
 pub mod Steps
+pub mod Meaning
+pub mod Grants
