@@ -7,3 +7,4 @@ pub mod Bounds
 pub mod Steps
 pub mod Meaning
 pub mod Grants
+pub mod Histories
