@@ -216,3 +216,168 @@ module _ {plan : Plan} (sound : SoundPlan plan) where
   -- the workers' non-empty deques and the muggable ones number at most the largest count granted so far
   pub largest-bounds : (calls : List Call) → Bounded (largest-granted (run plan calls)) (run plan calls .state .execution)
   largest-bounds calls = largest calls .at-most
+
+-- ---- how large the counts can be
+
+-- no rule takes the desire above 64
+desire-at-most : (plan : Plan) (desire : ℕ) (e s : Bool) → desire ≤ most-workers → next-desire plan desire e s ≤ most-workers
+unfolding next-desire
+desire-at-most plan desire false s h = omega (arith, div-le-self desire (plan .responsiveness))
+desire-at-most plan desire true true h = go (leb (desire * plan .responsiveness) most-workers) refl
+  where
+    go : (b : Bool) → leb (desire * plan .responsiveness) most-workers ≡ b → cond b (desire * plan .responsiveness) desire ≤ most-workers
+    go true e = leb-true (desire * plan .responsiveness) most-workers e
+    go false e = h
+desire-at-most plan desire true false h = h
+
+not-opened : {k : ℕ} → idle ≡ opened k → ⊥
+not-opened p = not-idle (sym p)
+
+opened-with : {j k : ℕ} → opened j ≡ opened k → j ≡ k
+opened-with p = cc
+
+module _ {plan : Plan} (sound : SoundPlan plan) where
+  pub fresh-measured : Measured plan (fresh plan)
+  unfolding fresh
+  fresh-measured =
+      record {
+        wanted = omega arith;
+        deques-at-most = unstarted-bounded most-workers (fresh-arranged sound .before refl);
+        quanta = omega arith;
+        current = λ k p. absurd (not-opened p);
+        usage-at-most = omega arith;
+        cycles-at-most = omega arith;
+        successful = omega arith;
+      }
+
+  pub grant-measured : {s : State} → Arranged plan s → Measured plan s → (g : ℕ) → GrantAccepted g s → Measured plan (grant g s)
+  grant-measured {s} a m g t =
+      unfold grant in
+      record {
+        wanted = m .wanted;
+        deques-at-most = bounded-more (omega (arith, t .wanted, m .wanted)) (arranged-grant-bounded a (m .deques-at-most) g);
+        quanta = t .more-quanta;
+        current = λ k p.
+            let none-yet = opened-with p in
+            let room-more = mul-suc (plan .quantum-length) (s .begun) in
+            record {
+              within = omega arith;
+              unclosed = λ f. omega (arith, sound .timed);
+              satisfiable = omega (arith, grant-allotment g s, t .wanted);
+              usage-so-far = omega arith;
+              room = omega (arith, m .cycles-at-most);
+            };
+        usage-at-most = omega arith;
+        cycles-at-most = omega (arith, m .cycles-at-most, mul-suc (plan .quantum-length) (s .begun));
+        successful = m .successful;
+      }
+
+  pub tick-measured : {s : State} → Measured plan s → (choices : List ℕ) → TickAccepted choices s → Measured plan (tick plan choices s)
+  tick-measured {s} m choices t =
+      tick-cases plan choices s (Measured plan)
+      (λ c. unfold ticked closed in
+          record {
+            wanted = desire-at-most plan (s .desire) (efficient-now plan (ticked plan choices s)) (satisfied-now (ticked plan choices s)) (m .wanted);
+            deques-at-most = bound;
+            quanta = m .quanta;
+            current = λ k p. absurd (not-opened p);
+            usage-at-most = omega (arith, used, o .unclosed (t .unfinished), o .usage-so-far, few);
+            cycles-at-most = omega (arith, spent, o .unclosed (t .unfinished), o .room, few);
+            successful = succeeded;
+          })
+      (λ c. unfold ticked in
+          record {
+            wanted = m .wanted;
+            deques-at-most = bound;
+            quanta = m .quanta;
+            current = λ k p.
+                let next = opened-with p in
+                let open-before = o .unclosed (t .unfinished) in
+                record {
+                  within = omega arith;
+                  unclosed = λ f. omega (arith, not-yet c f);
+                  satisfiable = omega (arith, same-allotment, o .satisfiable);
+                  usage-so-far = omega (arith, used, o .usage-so-far, few);
+                  room = omega (arith, spent, o .room, few);
+                };
+            usage-at-most = omega (arith, used, o .unclosed (t .unfinished), o .usage-so-far, few);
+            cycles-at-most = omega (arith, spent, o .unclosed (t .unfinished), o .room, few);
+            successful = succeeded;
+          })
+    where
+      e : Execution
+      e = s .execution
+
+      k : ℕ
+      k = ticks-of (s .quantum)
+
+      after : Execution
+      after = cycles plan 0 choices e
+
+      o : OpenQuantum plan s k
+      o = m .current k (t .open-quantum)
+
+      fits : 0 + length choices ≤ length (e .deques)
+      fits = omega (arith, t .one-each)
+
+      few : length (cycles-made plan 0 choices e) ≤ most-workers
+      few = omega (arith, made-at-most plan choices 0 e, t .one-each, m .deques-at-most .workers)
+
+      used : after .counts .usage ≤ e .counts .usage + length (cycles-made plan 0 choices e)
+      used = omega (arith, cycles-counted plan 0 choices e fits .nonsteal-usage, all-kinds (cycles-made plan 0 choices e))
+
+      spent : after .counts .works .work + after .counts .mugs .mug + after .counts .steals .steal
+          ≡ e .counts .works .work + e .counts .mugs .mug + e .counts .steals .steal + length (cycles-made plan 0 choices e)
+      spent =
+          let c = cycles-counted plan 0 choices e fits in
+          omega (arith, c .work, c .mug, c .steal, all-kinds (cycles-made plan 0 choices e))
+
+      succeeded : after .counts .successes ≤ after .counts .steals .steal
+      succeeded =
+          let c = cycles-counted plan 0 choices e fits in
+          omega (arith, c .success, c .steal, successes-are-steals (cycles-made plan 0 choices e), m .successful)
+
+      bound : Bounded most-workers after
+      bound = cycles-bounded plan (m .deques-at-most) 0 choices fits
+
+      same-allotment : length (after .deques) ≡ length (e .deques)
+      same-allotment = cycles-allotment plan choices 0 e fits
+
+      not-yet : closes plan (ticked plan choices s) ≡ false → finished after ≡ false → suc k ≡ plan .quantum-length → ⊥
+      not-yet c f = eqb-false (suc k) (plan .quantum-length) (go (finished after) f (unfold closes ticked in c))
+        where
+          go : (b : Bool) → b ≡ false → (not b && eqb (suc k) (plan .quantum-length)) ≡ false → eqb (suc k) (plan .quantum-length) ≡ false
+          go false p q = q
+          go true p q = absurd (true-is-not-false refl p)
+
+  record Kept (h : History) : Type 0 where
+    place : Arranged plan (h .state)
+    size : Measured plan (h .state)
+
+  pub measured : (calls : List Call) → Measured plan (run plan calls .state)
+  measured calls =
+      run-keeps plan Kept
+      (unfold beginning in record { place = fresh-arranged sound; size = fresh-measured })
+      (λ g h t q. unfold history-grant in
+          record { place = grant-arranged sound (h .state) (q .place) g; size = grant-measured (q .place) (q .size) g t })
+      (λ choices h t q. unfold history-tick in
+          record { place = tick-arranged sound (h .state) (q .place) choices t; size = tick-measured (q .size) choices t })
+      calls
+      .size
+
+-- ---- in numbers
+
+pub numbers-of : {plan : Plan} {s : State} → plan .quantum-length ≤ 65535 → tasks plan ≤ 1024 → Arranged plan s → Measured plan s → Numbers s
+numbers-of {plan} {s} short small a m =
+    let product = mul-le-mul short (m .quanta) in
+    record {
+      work = omega (arith, work-at-most a);
+      usage = omega (arith, m .usage-at-most);
+      all-cycles = omega (arith, m .cycles-at-most);
+      successes = omega (arith, m .cycles-at-most, m .successful);
+      begun = m .quanta;
+    }
+
+pub numbers : {plan : Plan} → SoundPlan plan → plan .quantum-length ≤ 65535 → tasks plan ≤ 1024 → (calls : List Call) →
+    Numbers (run plan calls .state)
+numbers sound short small calls = numbers-of short small (arranged sound calls) (measured sound calls)
