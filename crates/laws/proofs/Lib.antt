@@ -8,3 +8,4 @@ pub mod Steps
 pub mod Meaning
 pub mod Grants
 pub mod Histories
+pub mod Progress
