@@ -3,3 +3,4 @@ pub mod Lists
 pub mod Asked
 pub mod Facts
 pub mod Sound
+pub mod Refusals
