@@ -3,3 +3,4 @@ pub mod Lists
 pub mod Readiness
 pub mod Cycles
 pub mod Placement
+pub mod Bounds
