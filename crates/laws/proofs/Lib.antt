@@ -4,3 +4,7 @@ pub mod Readiness
 pub mod Cycles
 pub mod Placement
 pub mod Bounds
+pub mod Steps
+pub mod Meaning
+pub mod Grants
+pub mod Histories
