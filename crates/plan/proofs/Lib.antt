@@ -1,0 +1,6 @@
+-- Lists, Asked: laws of the tools that the definitions are said with.
+pub mod Lists
+pub mod Asked
+pub mod Facts
+pub mod Sound
+pub mod Refusals

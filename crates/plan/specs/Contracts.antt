@@ -1,0 +1,108 @@
+-- What the functions ask and promise, over plain lists and numbers.
+use mathlib.Core.Path.{_≡_}
+use mathlib.Core.Bool.{Bool, cond, not, _&&_}
+use mathlib.Core.List.{List, [], _∷_, flatMap}
+use Prim.Native.Nat.{ℕ, _+_, _*_, _-_, _≤_, _<_}
+use lib.Dec.{leb, ltb, eqb}
+use lib.ListN.{length, getD, set, drop, replicate}
+use Rattle.model.specs.Tests.{below, every, keep, member}
+use Rattle.model.specs.Questions.{Question, Answer, accepted, refused, ask, first-no}
+use Rattle.model.specs.Plan.{field, predecessors, form-field, responsiveness-field, utilization-field, quantum-length-field, task-count, count-field, first-field, second-field, used-fields, successor-fields, fields-ok, targets-ok, task-questions, plan-of, plan-answer}
+use Rattle.plan.specs.declared.Header.{Header}
+use Rattle.plan.specs.declared.TaskFields.{TaskFields}
+use Rattle.plan.specs.declared.PlanRecord.{PlanRecord}
+use Rattle.plan.specs.declared.Reading.{Reading}
+use Rattle.plan.specs.Answers.{answer-of}
+use Rattle.plan.specs.View.{plan-view, Ends}
+
+-- ---- the fields
+
+-- the fields of five bytes as one number
+pub record HeaderOf (bits : ℕ) (h : Header) : Type 0 where
+  pub form-read : h .form ≡ field 4 36 bits
+  pub responsiveness-read : h .responsiveness ≡ field 3 33 bits
+  pub utilization-read : h .utilization ≡ field 7 26 bits
+  pub quantum-read : h .quantum ≡ field 16 10 bits
+  pub tasks-read : h .tasks ≡ field 10 0 bits + 1
+
+abbrev pub five-bytes : ℕ → ℕ → ℕ → ℕ → ℕ → ℕ
+five-bytes a b c d e = (((a * 256 + b) * 256 + c) * 256 + d) * 256 + e
+
+-- the fields of three bytes as one number
+pub record TaskOf (bits : ℕ) (f : TaskFields) : Type 0 where
+  pub count-read : f .count ≡ field 2 22 bits
+  pub first-read : f .first ≡ field 11 11 bits
+  pub second-read : f .second ≡ field 11 0 bits
+
+abbrev pub three-bytes : ℕ → ℕ → ℕ → ℕ
+three-bytes a b c = (a * 256 + b) * 256 + c
+
+-- ---- the questions of fields that were read
+
+-- 2 to 6
+unfoldable pub field-questions : ℕ → ℕ → ℕ → ℕ → ℕ → ℕ → List Question
+field-questions form responsiveness utilization quantum tasks size =
+    ask (eqb form 1) 2
+    ∷ ask (leb 2 responsiveness) 3
+    ∷ ask (leb 1 utilization && leb utilization 100) 4
+    ∷ ask (leb 1 quantum) 5
+    ∷ ask (eqb size (5 + 3 * tasks)) 6
+    ∷ []
+
+-- 7 and 8 of one task
+unfoldable pub pair-questions : ℕ → ℕ → ℕ → ℕ → ℕ → List Question
+pair-questions n t count first second =
+    ask (fields-ok count first second) 7 ∷ ask (targets-ok n t (used-fields count first second)) 8 ∷ []
+
+-- ---- the arrays while the tasks are read
+
+-- a count that stops at 3, so that it fits a byte; 3 is "three or more"
+unfoldable pub saturated : ℕ → ℕ
+saturated n = cond (ltb n 3) n 3
+
+-- one more predecessor of the task s, where s is a used field and the count is below 3
+unfoldable pub noted : List ℕ → ℕ → List ℕ
+noted counts s = cond (eqb s 0) counts (cond (ltb (getD counts s 0) 3) (set counts s (getD counts s 0 + 1)) counts)
+
+-- how many of the tasks below i have t as a successor
+unfoldable pub counted : List ℕ → ℕ → ℕ → ℕ
+counted bytes i t = length (keep (λ p. member t (successor-fields bytes p)) (below i))
+
+-- the tasks below i are read and accepted, and the arrays hold their fields and nothing else
+pub record Held (bytes : List ℕ) (i : ℕ) (first second counts : List ℕ) : Type 0 where
+  pub accepted-so-far : first-no (flatMap (task-questions bytes) (below i)) ≡ accepted
+  pub first-held : (t : ℕ) → t < i → getD first t 0 ≡ first-field bytes t
+  pub second-held : (t : ℕ) → t < i → getD second t 0 ≡ second-field bytes t
+  pub counts-held : (t : ℕ) → getD counts t 0 ≡ saturated (counted bytes i t)
+  pub first-ends : Ends i first
+  pub second-ends : Ends i second
+  pub counts-ends : Ends (task-count bytes) counts
+
+-- ---- what reading promises
+
+-- the blank: what stands beside a refusal. It is no plan: a plan has a task.
+unfoldable pub blank : PlanRecord
+blank =
+    record {
+      responsiveness = 0;
+      utilization = 0;
+      «quantum_length» = 0;
+      tasks = 0;
+      first = replicate 1024 0;
+      second = replicate 1024 0;
+      predecessors = replicate 1024 0;
+    }
+
+-- the record holds the plan of the bytes, how many predecessors each task has, and 0 at and past N
+pub record Holds (bytes : List ℕ) (plan : PlanRecord) : Type 0 where
+  pub shows : plan-view plan ≡ plan-of bytes
+  pub preceded : (t : ℕ) → t < plan .tasks → getD (plan .predecessors) t 0 ≡ length (predecessors (plan-of bytes) t)
+  pub first-ends : Ends (plan .tasks) (plan .first)
+  pub second-ends : Ends (plan .tasks) (plan .second)
+  pub predecessors-ends : Ends (plan .tasks) (plan .predecessors)
+
+-- the answer is the first "no"; where there is none, the plan is held; a refusal leaves the blank
+pub record RightReading (bytes : List ℕ) (r : Reading) : Type 0 where
+  pub answered : answer-of (r .answer) ≡ plan-answer bytes
+  pub held : plan-answer bytes ≡ accepted → Holds bytes (r .plan)
+  pub no-plan : (number : ℕ) → plan-answer bytes ≡ refused number → r .plan ≡ blank

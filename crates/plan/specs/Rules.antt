@@ -1,0 +1,32 @@
+-- The plan rules as plain facts. What the plan itself shows of them is model's SoundPlan; what stands here is said of the bytes.
+use mathlib.Core.Path.{_≡_}
+use mathlib.Core.List.{List, List·Memᴰ}
+use Prim.Native.Nat.{ℕ, _+_, _*_, _≤_, _<_}
+use lib.ListN.{length}
+use Rattle.model.specs.Plan.{Plan, tasks, successors-of, form-field, task-count, count-field, first-field, second-field, plan-of}
+use Rattle.model.specs.Statements.{SoundPlan}
+
+-- the bytes are those of a plan: long enough, the known form, no byte too few or too many, counts of at most 2, unused fields 0
+pub record WellFormed (bytes : List ℕ) : Type 0 where
+  pub long-enough : 5 ≤ length bytes
+  pub known-form : form-field bytes ≡ 1
+  pub exact-length : length bytes ≡ 5 + 3 * task-count bytes
+  pub two-fields : (t : ℕ) → t < task-count bytes → count-field bytes t ≤ 2
+  pub first-unused : (t : ℕ) → t < task-count bytes → count-field bytes t ≡ 0 → first-field bytes t ≡ 0
+  pub second-unused : (t : ℕ) → t < task-count bytes → count-field bytes t ≤ 1 → second-field bytes t ≡ 0
+
+-- all plan rules
+pub record PlanRules (bytes : List ℕ) : Type 0 where
+  pub well-formed : WellFormed bytes
+  pub sound : SoundPlan (plan-of bytes)
+
+-- what the field widths bound
+pub record WithinBounds (plan : Plan) : Type 0 where
+  pub tasks-most : tasks plan ≤ 1024
+  pub quantum-most : plan .quantum-length ≤ 65535
+  pub responsiveness-most : plan .responsiveness ≤ 7
+
+-- a path of successors from one task to another
+pub data Leads (plan : Plan) (start : ℕ) : ℕ → Type 0 where
+  nowhere : {t : ℕ} → t ≡ start → Leads plan start t
+  onward : {p t : ℕ} → Leads plan start p → List·Memᴰ t (successors-of plan p) → Leads plan start t

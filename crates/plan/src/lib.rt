@@ -1,0 +1,173 @@
+// A plan's bytes become the plan, or the number of the first question whose answer is no. Nothing is asked of the bytes.
+ghost use mathlib.Core.Path.{_≡_};
+ghost use mathlib.Core.Bool.{not, _&&_};
+ghost use mathlib.Core.List.{flatMap};
+ghost use Prim.Native.Nat.{_+_, _*_, _-_, _≤_, _<_};
+ghost use lib.Dec.{leb, eqb};
+ghost use lib.ListN.{length, getD, drop};
+ghost use Rattle.model.specs.Tests.{below, every};
+ghost use Rattle.model.specs.Questions.{accepted, first-no};
+ghost use Rattle.model.specs.Plan.{task-count, task-questions};
+ghost use Rattle.plan.specs.Answers.{answer-of};
+ghost use Rattle.plan.specs.Contracts.{HeaderOf, five-bytes, TaskOf, three-bytes, field-questions, pair-questions, noted, Held, RightReading, blank};
+
+// One case for each number of the paper, which answer-of gives.
+pub enum PlanAnswer {
+    Accepted,
+    Short,
+    UnknownForm,
+    LowResponsiveness,
+    BadUtilization,
+    NoQuantum,
+    WrongLength,
+    BadFields,
+    BadSuccessors,
+    BadPredecessors,
+    LooseEnd,
+}
+
+// A plan. A task's successors stand by field in `first` and `second`, where 0 means unused: no successor is task 0.
+pub struct PlanRecord {
+    pub responsiveness: u8,
+    pub utilization: u8,
+    pub quantum_length: u16,
+    pub tasks: u16,
+    pub first: [u16; 1024],
+    pub second: [u16; 1024],
+    // how many predecessors each task has
+    pub predecessors: [u8; 1024],
+}
+
+// The answer, and the plan where it is Accepted. On a refusal there is no plan: what stands there is the blank.
+pub struct Reading {
+    pub answer: PlanAnswer,
+    pub plan: PlanRecord,
+}
+
+// The header's fields, with the number of tasks itself and not one less.
+struct Header {
+    form: usize,
+    responsiveness: usize,
+    utilization: usize,
+    quantum: usize,
+    tasks: usize,
+}
+
+// A task's fields.
+struct TaskFields {
+    count: usize,
+    first: usize,
+    second: usize,
+}
+
+fn header_of(a: u8, b: u8, c: u8, d: u8, e: u8) -> Header
+    ensures { λ r. ⌜ HeaderOf (five-bytes a b c d e) r ⌝ }
+{
+    Header {
+        form: (a / 16) as usize,
+        responsiveness: (a / 2 % 8) as usize,
+        utilization: (a as usize) % 2 * 64 + (b as usize) / 4,
+        quantum: (b as usize) % 4 * 16384 + (c as usize) * 64 + (d as usize) / 4,
+        tasks: (d as usize) % 4 * 256 + (e as usize) + 1,
+    }
+}
+
+// Questions 2 to 6.
+fn header_answer(h: Header, size: usize) -> PlanAnswer
+    requires { ⌜ h .tasks ≤ 1024 ⌝ }
+    ensures { λ r. ⌜ answer-of r ≡ first-no (field-questions (h .form) (h .responsiveness) (h .utilization) (h .quantum) (h .tasks) size) ⌝ }
+{
+    if h.form != 1 {
+        return PlanAnswer::UnknownForm;
+    }
+    if h.responsiveness < 2 {
+        return PlanAnswer::LowResponsiveness;
+    }
+    if h.utilization < 1 {
+        return PlanAnswer::BadUtilization;
+    }
+    if h.utilization > 100 {
+        return PlanAnswer::BadUtilization;
+    }
+    if h.quantum < 1 {
+        return PlanAnswer::NoQuantum;
+    }
+    if size != 5 + 3 * h.tasks {
+        return PlanAnswer::WrongLength;
+    }
+    PlanAnswer::Accepted
+}
+
+fn task_of(a: u8, b: u8, c: u8) -> TaskFields
+    ensures { λ r. ⌜ TaskOf (three-bytes a b c) r ⌝ }
+{
+    TaskFields {
+        count: (a / 64) as usize,
+        first: (a as usize) % 64 * 32 + (b as usize) / 8,
+        second: (b as usize) % 8 * 256 + (c as usize),
+    }
+}
+
+// Questions 7 and 8 of the task t of n.
+fn task_answer(f: TaskFields, t: usize, n: usize) -> PlanAnswer
+    ensures { λ r. ⌜ answer-of r ≡ first-no (pair-questions n t (f .count) (f .first) (f .second)) ⌝ }
+{
+    if f.count > 2 {
+        return PlanAnswer::BadFields;
+    }
+    if f.count == 2 {
+        return two_answer(f.first, f.second, t, n);
+    }
+    if f.second != 0 {
+        return PlanAnswer::BadFields;
+    }
+    if f.count == 0 {
+        if f.first != 0 {
+            return PlanAnswer::BadFields;
+        }
+        return PlanAnswer::Accepted;
+    }
+    if f.first <= t {
+        return PlanAnswer::BadSuccessors;
+    }
+    if f.first >= n {
+        return PlanAnswer::BadSuccessors;
+    }
+    PlanAnswer::Accepted
+}
+
+// Question 8 of a task with two successors.
+fn two_answer(first: usize, second: usize, t: usize, n: usize) -> PlanAnswer
+    ensures { λ r. ⌜ answer-of r ≡ first-no (pair-questions n t 2 first second) ⌝ }
+{
+    if first <= t {
+        return PlanAnswer::BadSuccessors;
+    }
+    if first >= n {
+        return PlanAnswer::BadSuccessors;
+    }
+    if second <= t {
+        return PlanAnswer::BadSuccessors;
+    }
+    if second >= n {
+        return PlanAnswer::BadSuccessors;
+    }
+    if first == second {
+        return PlanAnswer::BadSuccessors;
+    }
+    PlanAnswer::Accepted
+}
+
+// One predecessor more for the task s, up to 3; a field that is 0 names no task.
+fn note(counts: &mut [u8; 1024], s: usize)
+    requires { ⌜ s < 1024 ⌝ }
+    ensures { λ _. ⌜ now (counts .exit) ≡ noted (now (counts .entry)) s ⌝ }
+{
+    if s == 0 {
+        return;
+    }
+    let count = counts[s];
+    if count < 3 {
+        counts[s] = count + 1;
+    }
+}
