@@ -9,3 +9,4 @@ pub mod Meaning
 pub mod Grants
 pub mod Histories
 pub mod Progress
+pub mod Order
