@@ -17,3 +17,8 @@ pub mod PairingLaw
 pub mod MugLimitLaw
 pub mod Carried
 pub mod DemandThree
+pub mod Meaning
+pub mod Grants
+pub mod Histories
+pub mod Progress
+pub mod Order
