@@ -8,7 +8,9 @@ ghost use Rattle.deque.specs.Steps.{link-after, Reachable, Releasable, R
 
 // Three counts, and no total of one kind takes a cycle of another: each has a type of its own.
 pub struct WorkCycles(pub u64);
+
 pub struct MugCycles(pub u64);
+
 pub struct StealCycles(pub u64);
 
 // The numbers of an execution, beside its arrays.
@@ -78,5 +80,8 @@ pub fn release(pending: &mut [u8; 1024], next: &mut [u16; 1024], task: u16, dequ
         return deque;
     }
     next[at] = deque.front;
-    Deque { front: task, size: deque.size + 1 }
+    Deque {
+        front: task,
+        size: deque.size + 1,
+    }
 }

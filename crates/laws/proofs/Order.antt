@@ -139,7 +139,7 @@ module _ {plan : Plan} (sound : SoundPlan plan) where
   cycles-in-order choices made e h placed o =
       cycles-made-keep plan Ordered
       (λ made w choice e l f q.
-          record { place = cycle-placed sound (q .place) w choice l; order = cycle-in-order made w choice e (q .place) (q .order) })
+      record { place = cycle-placed sound (q .place) w choice l; order = cycle-in-order made w choice e (q .place) (q .order) })
       choices
       made
       0
@@ -215,9 +215,10 @@ module _ {plan : Plan} (sound : SoundPlan plan) where
       record {
         once = λ i j l m e. place-once order (λ t. at-most-one t (getD worked t false) (o .flagged t)) i j l m e;
         in-order = o .after-all;
-        marked = λ t.
-            (λ h. found t order (let one = o .flagged t ∙ ap (λ (b : Bool). cond {A = ℕ} b 1 0) h in omega arith),
-             λ m. is-set t (getD worked t false) (o .flagged t) (occurs t order m));
+        marked = λ t. (
+          λ h. found t order (let one = o .flagged t ∙ ap (λ (b : Bool). cond {A = ℕ} b 1 0) h in omega arith),
+          λ m. is-set t (getD worked t false) (o .flagged t) (occurs t order m),
+        );
       }
     where
       order : List ℕ
@@ -239,9 +240,10 @@ module _ {plan : Plan} (sound : SoundPlan plan) where
 
   pub finished-exactly : (calls : List Call) → FinishedExactly plan (run plan calls)
   unfolding status finished
-  finished-exactly calls =
-      (λ h t l. all-set-at worked (shown (all-set worked) refl h) t (rw flags l),
-       λ all. rw (all-set-from worked (λ t l. all t (rw flags at l))) refl)
+  finished-exactly calls = (
+    λ h t l. all-set-at worked (shown (all-set worked) refl h) t (rw flags l),
+    λ all. rw (all-set-from worked (λ t l. all t (rw flags at l))) refl,
+  )
     where
       s : State
       s = run plan calls .state
