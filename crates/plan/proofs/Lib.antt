@@ -4,3 +4,7 @@ pub mod Asked
 pub mod Facts
 pub mod Sound
 pub mod Refusals
+pub mod Arrays
+pub mod Steps
+pub mod Whole
+pub mod Answered

@@ -7,10 +7,11 @@ use lib.Dec.{leb, ltb, eqb}
 use lib.ListN.{length, getD, set, drop, replicate}
 use Rattle.model.specs.Tests.{below, every, keep, member}
 use Rattle.model.specs.Questions.{Question, Answer, accepted, refused, ask, first-no}
-use Rattle.model.specs.Plan.{field, predecessors, form-field, responsiveness-field, utilization-field, quantum-length-field, task-count, count-field, first-field, second-field, used-fields, successor-fields, fields-ok, targets-ok, task-questions, plan-of, plan-answer}
+use Rattle.model.specs.Plan.{field, header, predecessors, task-count, first-field, second-field, used-fields, successor-fields, fields-ok, targets-ok, task-questions, header-questions, plan-of, plan-answer}
 use Rattle.plan.specs.declared.Header.{Header}
 use Rattle.plan.specs.declared.TaskFields.{TaskFields}
 use Rattle.plan.specs.declared.PlanRecord.{PlanRecord}
+use Rattle.plan.specs.declared.PlanAnswer.{PlanAnswer}
 use Rattle.plan.specs.declared.Reading.{Reading}
 use Rattle.plan.specs.Answers.{answer-of}
 use Rattle.plan.specs.View.{plan-view, Ends}
@@ -54,6 +55,11 @@ unfoldable pub pair-questions : ℕ → ℕ → ℕ → ℕ → ℕ → List Que
 pair-questions n t count first second =
     ask (fields-ok count first second) 7 ∷ ask (targets-ok n t (used-fields count first second)) 8 ∷ []
 
+-- the header is read and accepted
+pub record HeaderRead (bytes : List ℕ) (h : Header) : Type 0 where
+  pub fields : HeaderOf (header bytes) h
+  pub passed : first-no (header-questions bytes) ≡ accepted
+
 -- ---- the arrays while the tasks are read
 
 -- a count that stops at 3, so that it fits a byte; 3 is "three or more"
@@ -77,6 +83,31 @@ pub record Held (bytes : List ℕ) (i : ℕ) (first second counts : List ℕ) : 
   pub first-ends : Ends i first
   pub second-ends : Ends i second
   pub counts-ends : Ends (task-count bytes) counts
+
+-- ---- what the functions over the arrays ask and promise
+
+-- the header is accepted, and the tasks below t are read
+pub record Due (bytes : List ℕ) (n t : ℕ) (first second counts : List ℕ) : Type 0 where
+  pub whole : length bytes ≡ 5 + 3 * n
+  pub number : n ≡ task-count bytes
+  pub held : Held bytes t first second counts
+
+-- the answer of task t; where it is acceptance, the tasks below t + 1 are read
+pub record TaskRead (bytes : List ℕ) (t : ℕ) (r : PlanAnswer) (first second counts : List ℕ) : Type 0 where
+  pub answered : answer-of r ≡ first-no (task-questions bytes t)
+  pub held : answer-of r ≡ accepted → Held bytes (t + 1) first second counts
+
+-- the answer of all tasks; where it is acceptance, all n are read
+pub record TasksRead (bytes : List ℕ) (n : ℕ) (r : PlanAnswer) (first second counts : List ℕ) : Type 0 where
+  pub answered : answer-of r ≡ first-no (flatMap (task-questions bytes) (below n))
+  pub held : answer-of r ≡ accepted → Held bytes n first second counts
+
+-- the tests of questions 9 and 10, over the arrays
+unfoldable pub one-or-two : List ℕ → ℕ → Bool
+one-or-two counts t = leb 1 (getD counts t 0) && leb (getD counts t 0) 2
+
+unfoldable pub followed : List ℕ → ℕ → Bool
+followed first t = not (eqb (getD first t 0) 0)
 
 -- ---- what reading promises
 

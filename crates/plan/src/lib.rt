@@ -8,8 +8,8 @@ ghost use lib.ListN.{length, getD, drop};
 ghost use Rattle.model.specs.Tests.{below, every};
 ghost use Rattle.model.specs.Questions.{accepted, first-no};
 ghost use Rattle.model.specs.Plan.{task-count, task-questions};
-ghost use Rattle.plan.specs.Answers.{answer-of};
-ghost use Rattle.plan.specs.Contracts.{HeaderOf, five-bytes, TaskOf, three-bytes, field-questions, pair-questions, noted, Held, RightReading, blank};
+ghost use Rattle.plan.specs.Answers.{answer-of, passes};
+ghost use Rattle.plan.specs.Contracts.{HeaderOf, five-bytes, TaskOf, three-bytes, field-questions, pair-questions, noted, Due, TaskRead, TasksRead, one-or-two, followed, HeaderRead, blank, RightReading};
 
 // One case for each number of the paper, which answer-of gives.
 pub enum PlanAnswer {
@@ -58,6 +58,13 @@ struct TaskFields {
     count: usize,
     first: usize,
     second: usize,
+}
+
+// Is the answer acceptance?
+pub fn passed(answer: PlanAnswer) -> bool
+    ensures { λ r. ⌜ r ≡ passes (answer-of answer) ⌝ }
+{
+    if let PlanAnswer::Accepted = answer { true } else { false }
 }
 
 fn header_of(a: u8, b: u8, c: u8, d: u8, e: u8) -> Header
@@ -171,3 +178,84 @@ fn note(counts: &mut [u8; 1024], s: usize)
         counts[s] = count + 1;
     }
 }
+
+// Reads the task t of n: its questions, and where they pass its fields into the arrays.
+fn read_task(
+    bytes: &[u8],
+    t: usize,
+    n: usize,
+    first: &mut [u16; 1024],
+    second: &mut [u16; 1024],
+    counts: &mut [u8; 1024],
+) -> PlanAnswer
+    requires { ⌜ t < n ⌝ ∗ ⌜ Due (now bytes) n t (now first) (now second) (now counts) ⌝ }
+    ensures { λ r. ⌜ TaskRead (now (bytes .entry)) t r (now (first .exit)) (now (second .exit)) (now (counts .exit)) ⌝ }
+{
+    let at = 5 + 3 * t;
+    let f = task_of(bytes[at], bytes[at + 1], bytes[at + 2]);
+    let answer = task_answer(f, t, n);
+    if passed(answer) {
+        first[t] = f.first as u16;
+        second[t] = f.second as u16;
+        note(counts, f.first);
+        note(counts, f.second);
+    }
+    answer
+}
+
+// Reads all n tasks, in rising order, and stops at the first "no". The arrays come with zeros.
+fn read_tasks(
+    bytes: &[u8],
+    n: usize,
+    first: &mut [u16; 1024],
+    second: &mut [u16; 1024],
+    counts: &mut [u8; 1024],
+) -> PlanAnswer
+    requires { ⌜ Due (now bytes) n 0 (now first) (now second) (now counts) ⌝ }
+    ensures { λ r. ⌜ TasksRead (now (bytes .entry)) n r (now (first .exit)) (now (second .exit)) (now (counts .exit)) ⌝ }
+{
+    let mut t = 0;
+    while t < n {
+        let answer = read_task(bytes, t, n, first, second, counts);
+        if passed(answer) {
+            t += 1;
+        } else {
+            return answer;
+        }
+    }
+    PlanAnswer::Accepted
+}
+
+// Question 9 over the counts: each of the tasks from 1 up has one or two predecessors.
+fn all_preceded(n: usize, counts: &[u8; 1024]) -> bool
+    requires { ⌜ n ≤ 1024 ⌝ }
+    ensures { λ r. ⌜ r ≡ every (one-or-two (now (counts .entry))) (drop 1 (below n)) ⌝ }
+{
+    let mut t = 1;
+    while t < n {
+        if counts[t] < 1 {
+            return false;
+        }
+        if counts[t] > 2 {
+            return false;
+        }
+        t += 1;
+    }
+    true
+}
+
+// Question 10 over the first successors: each task but the last has one.
+fn one_exit(n: usize, first: &[u16; 1024]) -> bool
+    requires { ⌜ n ≤ 1024 ⌝ }
+    ensures { λ r. ⌜ r ≡ every (followed (now (first .entry))) (below (n - 1)) ⌝ }
+{
+    let mut t = 0;
+    while t + 1 < n {
+        if first[t] == 0 {
+            return false;
+        }
+        t += 1;
+    }
+    true
+}
+
