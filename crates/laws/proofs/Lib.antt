@@ -10,3 +10,4 @@ pub mod Grants
 pub mod Histories
 pub mod Progress
 pub mod Order
+pub mod Awaiting

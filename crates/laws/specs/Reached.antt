@@ -1,12 +1,12 @@
 -- What holds of every state that a history reaches, whatever the calls: where its tasks stand, how many deques there are, and how large each
 -- count can be.
 use mathlib.Core.Path.{_≡_}
-use mathlib.Core.Bool.{Bool, true, false}
-use mathlib.Core.List.{List, [], _∷_, map}
+use mathlib.Core.Bool.{true, false}
+use mathlib.Core.List.{List, [], _∷_}
 use Prim.Native.Nat.{ℕ, _+_, _*_, _≤_, _<_, max}
-use lib.ListN.{length, replicate}
+use lib.ListN.{replicate}
 use Rattle.model.specs.Plan.{Plan, tasks}
-use Rattle.model.specs.Machine.{Counts, Execution, State, allotment, Quantum, opened, finished, quantum-limit, most-workers}
+use Rattle.model.specs.Machine.{Counts, Execution, State, allotment, opened, finished, quantum-limit, most-workers}
 use Rattle.model.specs.History.{ClosedQuantum, CurrentQuantum, none, begun-with, History}
 use Rattle.laws.specs.Invariants.{Placed, Bounded, Tallied}
 
