@@ -2,7 +2,7 @@
 use mathlib.Core.Path.{_≡_}
 use mathlib.Core.Bool.{Bool, true, false, cond, not, _&&_}
 use mathlib.Core.List.{List, [], _∷_}
-use Prim.Native.Nat.{ℕ, suc, _+_, _*_, _≤_}
+use Prim.Native.Nat.{ℕ, _+_, _≤_}
 use lib.Dec.{eqb, ltb}
 use lib.ListN.{length, getD}
 use Rattle.model.specs.Tests.{every, is-empty, count-set}
@@ -33,6 +33,8 @@ pub record Placed (plan : Plan) (e : Execution) : Type 0 where
   pub flags : length (e .worked) ≡ tasks plan
   pub once : (t : ℕ) → in-deques t (e .deques) + in-deques t (e .muggable) ≡ cond (waiting-work plan (e .worked) t) 1 0
   pub filled : every (λ d. not (is-empty d)) (e .muggable) ≡ true
+  -- a worked task's predecessors are worked: without it a task that is released might be worked already
+  pub ordered : (t : ℕ) → getD (e .worked) t false ≡ true → ready plan (e .worked) t ≡ true
 
 -- the non-empty deques and the muggable ones together number at most so many
 pub record Bounded (most : ℕ) (e : Execution) : Type 0 where

@@ -1,0 +1,142 @@
+-- How many deques and how many tasks there are: the non-empty deques and the muggable ones number no more than before a worker's cycle,
+-- because a steal happens only when no muggable deque waits; and all deques of a placed execution together hold at most N tasks.
+-- Assumes nothing.
+use mathlib.Core.Path.{_≡_, refl, ap, _∙_}
+use mathlib.Core.Bool.{Bool, true, false, cond}
+use mathlib.Core.List.{List, [], _∷_, _++_, tail, List·Memᴰ, List·Memᴰ·head, List·Memᴰ·tail}
+use Prim.Native.Nat.{ℕ, zero, suc, _+_, _≤_, _<_}
+use native.Mathlib.Nat.{not-suc-le-zero}
+use native.Mathlib.Omega.{arith}
+use lib.Dec.{eqb}
+use lib.ListN.{length, getD, set, length-set, length-append}
+use borrow.Author.Tests.{eqb-false}
+use Rattle.model.specs.Plan.{Plan, tasks}
+use Rattle.model.specs.Machine.{Execution, deque-of, completed, released, left-by-steal, taken-by-steal, work-cycle, mug-cycle, successful-steal, failed-steal, cycle, cycles}
+use Rattle.laws.specs.Invariants.{occurrences, in-deques, Placed, Bounded}
+use Rattle.laws.proofs.Lists.{one-if-filled, one-at-most, busy-set, busy-at-most, occurrences-append, occurs}
+use Rattle.laws.proofs.Cycles.{cycle-cases, cycles-keep}
+use Rattle.laws.proofs.Placement.{stands, standing-once}
+
+-- ---- deques
+
+pub bounded-more : {most more : ℕ} {e : Execution} → most ≤ more → Bounded most e → Bounded more e
+bounded-more {most} {more} {e} h b = record { workers = omega arith; lines = omega arith }
+
+pub cycle-bounded : {most : ℕ} {e : Execution} → (plan : Plan) → Bounded most e → (w choice : ℕ) → w < length (e .deques) →
+    Bounded most (cycle plan w choice e)
+unfolding work-cycle mug-cycle successful-steal failed-steal
+cycle-bounded {most} {e} plan b w choice here =
+    cycle-cases plan w choice e
+    (λ c after. Bounded most after)
+    (record {
+      working = λ t rest own.
+          let new : List ℕ = released plan (completed t (e .worked)) t ++ tail (deque-of e w) in
+          let left : one-if-filled (deque-of e w) ≡ 1 = ap one-if-filled own in
+          record {
+            workers = omega (arith, length-set (e .deques) w new, b .workers);
+            lines = omega (arith, busy-set (e .deques) w new here, one-at-most new, b .lines);
+          };
+      mugging = λ oldest others own waiting.
+          let empty : one-if-filled (deque-of e w) ≡ 0 = ap one-if-filled own in
+          let more : length (e .muggable) ≡ suc (length others) = ap length waiting in
+          let fewer : length (tail (e .muggable)) ≡ length others = ap (λ (ds : List (List ℕ)). length (tail ds)) waiting in
+          record {
+            workers = omega (arith, length-set (e .deques) w oldest, b .workers);
+            lines = omega (arith, busy-set (e .deques) w oldest here, one-at-most oldest, b .lines);
+          };
+      stealing = λ own none two.
+          let robbed : List (List ℕ) = set (e .deques) choice (left-by-steal (deque-of e choice)) in
+          let same : length (set robbed w (taken-by-steal (deque-of e choice))) ≡ length (e .deques) = simp length-set in
+          let no-muggable : length (e .muggable) ≡ 0 = ap length none in
+          record {
+            workers = omega (arith, b .workers);
+            lines = omega (arith, busy-at-most (set robbed w (taken-by-steal (deque-of e choice))), b .workers);
+          };
+      failing = λ own none few. record { workers = b .workers; lines = b .lines };
+    })
+
+pub cycles-bounded : {most : ℕ} {e : Execution} → (plan : Plan) → Bounded most e → (w : ℕ) (choices : List ℕ) →
+    w + length choices ≤ length (e .deques) → Bounded most (cycles plan w choices e)
+cycles-bounded {most} {e} plan b w choices h = cycles-keep plan (Bounded most) (λ v c before l f q. cycle-bounded plan q v c l) choices w e h b
+
+-- ---- tasks
+
+-- the sum of f below n
+sum-below : ℕ → (ℕ → ℕ) → ℕ
+sum-below zero f = 0
+sum-below (suc n) f = sum-below n f + f n
+
+sum-of-ones : (n : ℕ) (f : ℕ → ℕ) → ((t : ℕ) → f t ≤ 1) → sum-below n f ≤ n
+unfolding sum-below
+sum-of-ones zero f h = omega arith
+sum-of-ones (suc n) f h = omega (arith, sum-of-ones n f h, h n)
+
+sum-more : (n : ℕ) (f g : ℕ → ℕ) → sum-below n (λ t. f t + g t) ≡ sum-below n f + sum-below n g
+unfolding sum-below
+sum-more zero f g = refl
+sum-more (suc n) f g = omega (arith, sum-more n f g)
+
+-- one number stands for 1 in the sum
+sum-of-one : (n x : ℕ) → x < n → 1 ≤ sum-below n (λ t. cond (eqb t x) 1 0)
+unfolding sum-below
+sum-of-one zero x h = absurd (not-suc-le-zero h)
+sum-of-one (suc n) x h = go (eqb n x) refl (sum-of-one n x)
+  where
+    go : (b : Bool) → eqb n x ≡ b → (x < n → 1 ≤ sum-below n (λ t. cond (eqb t x) 1 0)) → 1 ≤ sum-below n (λ t. cond (eqb t x) 1 0) + cond b 1 0
+    go true e onward = omega arith
+    go false e onward = let ne = eqb-false n x e in omega (arith, onward (omega arith))
+
+-- numbers below n are no more than the sum of how often each stands there
+counted : (n : ℕ) (xs : List ℕ) → ((x : ℕ) → List·Memᴰ x xs → x < n) → length xs ≤ sum-below n (λ t. occurrences t xs)
+unfolding occurrences
+counted n [] h = omega arith
+counted n (x ∷ xs) h =
+    omega (
+      arith,
+      sum-more n (λ t. cond (eqb t x) 1 0) (λ t. occurrences t xs),
+      sum-of-one n x (h x (List·Memᴰ·head refl)),
+      counted n xs (λ y m. h y (List·Memᴰ·tail m)),
+    )
+
+-- the tasks of some deques in one list
+unfoldable pub tasks-of : List (List ℕ) → List ℕ
+tasks-of [] = []
+tasks-of (d ∷ ds) = d ++ tasks-of ds
+
+pub occurrences-tasks-of : (t : ℕ) (ds : List (List ℕ)) → occurrences t (tasks-of ds) ≡ in-deques t ds
+unfolding occurrences in-deques tasks-of
+occurrences-tasks-of t [] = refl
+occurrences-tasks-of t (d ∷ ds) = occurrences-append t d (tasks-of ds) ∙ ap (λ (n : ℕ). occurrences t d + n) (occurrences-tasks-of t ds)
+
+pub deque-within : (ds : List (List ℕ)) (w : ℕ) → length (getD ds w []) ≤ length (tasks-of ds)
+unfolding tasks-of
+deque-within [] w = omega arith
+deque-within (d ∷ ds) zero = omega (arith, length-append d (tasks-of ds))
+deque-within (d ∷ ds) (suc w) = omega (arith, length-append d (tasks-of ds), deque-within ds w)
+
+module _ {plan : Plan} {e : Execution} (placed : Placed plan e) where
+  -- all deques together hold at most N tasks
+  pub tasks-standing : length (tasks-of (e .deques)) + length (tasks-of (e .muggable)) ≤ tasks plan
+  tasks-standing =
+      let all : List ℕ = tasks-of (e .deques) ++ tasks-of (e .muggable) in
+      omega (
+        arith,
+        length-append (tasks-of (e .deques)) (tasks-of (e .muggable)),
+        counted (tasks plan) all (λ x m. stands placed x (omega (arith, times x, occurs x all m)) .of-plan),
+        sum-of-ones (tasks plan) (λ t. occurrences t all) (λ t. omega (arith, times t, standing-once placed t)),
+      )
+    where
+      times : (t : ℕ) → occurrences t (tasks-of (e .deques) ++ tasks-of (e .muggable)) ≡ in-deques t (e .deques) + in-deques t (e .muggable)
+      times t =
+          omega (
+            arith,
+            occurrences-append t (tasks-of (e .deques)) (tasks-of (e .muggable)),
+            occurrences-tasks-of t (e .deques),
+            occurrences-tasks-of t (e .muggable),
+          )
+
+  pub worker-length : (w : ℕ) → length (deque-of e w) ≤ tasks plan
+  worker-length w = omega (arith, deque-within (e .deques) w, tasks-standing)
+
+  pub muggable-length : (i : ℕ) → length (getD (e .muggable) i []) ≤ tasks plan
+  muggable-length i = omega (arith, deque-within (e .muggable) i, tasks-standing)

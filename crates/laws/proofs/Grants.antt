@@ -1,0 +1,170 @@
+-- A grant moves deques and loses none: the tasks stay placed, the first grant above 0 puts task 0 into worker 0's deque, and the deques number at
+-- most the largest count granted.
+-- Assumes nothing.
+use mathlib.Core.Path.{_≡_, refl, sym, ap, _∙_}
+use mathlib.Core.Bool.{Bool, true, false, cond}
+use mathlib.Core.List.{List, [], _∷_}
+use Prim.Native.Nat.{ℕ, zero, suc, _+_, _-_, _≤_, max}
+use native.Mathlib.Nat.{not-suc-le-zero, sub-zero}
+use native.Mathlib.Omega.{arith}
+use lib.Dec.{eqb, ltb}
+use lib.ListN.{length, take, drop, replicate, length-append, length-take, length-replicate}
+use borrow.Author.Tests.{ltb-true, ltb-false, ne-eqb}
+use Rattle.model.specs.Tests.{every, keep}
+use Rattle.model.specs.Plan.{Plan, tasks}
+use Rattle.model.specs.Machine.{State, allotment, kept-deques, withdrawn-deques, first-task-placed, place-first-task, grant}
+use Rattle.model.specs.Statements.{SoundPlan}
+use Rattle.laws.specs.Invariants.{occurrences, in-deques, busy, waiting-work, Placed, Bounded}
+use Rattle.laws.specs.Reached.{Unstarted}
+use Rattle.laws.proofs.Lists.{true-is-not-false, non-empty, in-deques-append, in-deques-split, in-deques-non-empty, in-deques-empty, busy-append, busy-split, busy-non-empty, busy-empty, every-append, kept-passes, none-set}
+use Rattle.laws.proofs.Readiness.{is-waiting, first-ready, others-not-ready, not-waiting-unready, not-waiting-outside}
+
+-- ---- kept and withdrawn deques
+
+module _ (g : ℕ) (ds : List (List ℕ)) where
+  new-deques : List (List ℕ)
+  new-deques = replicate (g - length ds) []
+
+  pub kept-length : length (kept-deques g ds) ≡ g
+  unfolding kept-deques new-deques
+  kept-length =
+      let none : List ℕ = [] in
+      omega (arith, length-append (take g ds) new-deques, length-take g ds, length-replicate (g - length ds) none)
+
+  pub kept-and-withdrawn : (t : ℕ) → in-deques t (kept-deques g ds) + in-deques t (withdrawn-deques g ds) ≡ in-deques t ds
+  unfolding kept-deques withdrawn-deques new-deques
+  kept-and-withdrawn t =
+      omega (
+        arith,
+        in-deques-append t (take g ds) new-deques,
+        in-deques-empty t (g - length ds),
+        in-deques-non-empty t (drop g ds),
+        in-deques-split t g ds,
+      )
+
+  pub kept-and-withdrawn-busy : busy (kept-deques g ds) + length (withdrawn-deques g ds) ≡ busy ds
+  unfolding kept-deques withdrawn-deques new-deques
+  kept-and-withdrawn-busy =
+      omega (
+        arith,
+        busy-append (take g ds) new-deques,
+        busy-empty (g - length ds),
+        busy-non-empty (drop g ds),
+        busy-split g ds,
+      )
+
+  pub withdrawn-filled : every non-empty (withdrawn-deques g ds) ≡ true
+  unfolding withdrawn-deques
+  withdrawn-filled = kept-passes non-empty (drop g ds)
+
+-- the first workers' deques are empty
+first-deques : (n : ℕ) → kept-deques (suc n) [] ≡ [] ∷ replicate n []
+unfolding kept-deques
+first-deques n = rw (sub-zero (suc n)) refl
+
+none-withdrawn : (g : ℕ) → withdrawn-deques g [] ≡ []
+unfolding withdrawn-deques keep
+none-withdrawn zero = refl
+none-withdrawn (suc n) = refl
+
+place-first-length : (ds : List (List ℕ)) → length (place-first-task ds) ≡ length ds
+place-first-length [] = refl
+place-first-length (d ∷ ds) = refl
+
+-- ---- the allotment is the count granted
+
+pub grant-allotment : (g : ℕ) (s : State) → allotment (grant g s) ≡ g
+unfolding grant first-task-placed
+grant-allotment g s = go (s .started)
+  where
+    go : (b : Bool) → length (cond b (kept-deques g (s .execution .deques)) (place-first-task (kept-deques g (s .execution .deques)))) ≡ g
+    go true = kept-length g (s .execution .deques)
+    go false = place-first-length (kept-deques g (s .execution .deques)) ∙ kept-length g (s .execution .deques)
+
+-- ---- a grant to a job that has started
+
+module _ (s : State) (on : s .started ≡ true) (g : ℕ) where
+  pub grant-placed : {plan : Plan} → Placed plan (s .execution) → Placed plan (grant g s .execution)
+  unfolding grant first-task-placed
+  grant-placed placed =
+      rw on
+      (record {
+        flags = placed .flags;
+        once = λ t.
+            omega (
+              arith,
+              in-deques-append t (s .execution .muggable) (withdrawn-deques g (s .execution .deques)),
+              kept-and-withdrawn g (s .execution .deques) t,
+              placed .once t,
+            );
+        filled =
+            every-append non-empty (s .execution .muggable) (withdrawn-deques g (s .execution .deques))
+            (placed .filled)
+            (withdrawn-filled g (s .execution .deques));
+        ordered = placed .ordered;
+      })
+
+  pub grant-bounded : {most : ℕ} → Bounded most (s .execution) → Bounded (max most g) (grant g s .execution)
+  unfolding grant first-task-placed
+  grant-bounded b =
+      rw on
+      (record {
+        workers = omega (arith, kept-length g (s .execution .deques));
+        lines =
+            omega (
+              arith,
+              length-append (s .execution .muggable) (withdrawn-deques g (s .execution .deques)),
+              kept-and-withdrawn-busy g (s .execution .deques),
+              b .lines,
+            );
+      })
+
+-- ---- the first grant above 0
+
+-- at the beginning task 0 alone is ready
+first-waiting : {plan : Plan} → SoundPlan plan → (t : ℕ) → waiting-work plan (replicate (tasks plan) false) t ≡ eqb t 0
+first-waiting {plan} sound zero =
+    is-waiting plan (replicate (tasks plan) false) 0
+    (record {
+      of-plan = sound .some-task;
+      is-ready = first-ready sound (replicate (tasks plan) false);
+      unworked = none-set (tasks plan) 0;
+    })
+first-waiting {plan} sound (suc t) = go (ltb (suc t) (tasks plan)) refl ∙ sym (ne-eqb (suc t) 0 (omega arith))
+  where
+    go : (b : Bool) → ltb (suc t) (tasks plan) ≡ b → waiting-work plan (replicate (tasks plan) false) (suc t) ≡ false
+    go true h =
+        not-waiting-unready plan (replicate (tasks plan) false) (suc t)
+        (others-not-ready sound (suc t) (omega arith) (ltb-true (suc t) (tasks plan) h))
+    go false h = not-waiting-outside plan (replicate (tasks plan) false) (suc t) (ltb-false (suc t) (tasks plan) h)
+
+module _ {plan : Plan} (s : State) (off : s .started ≡ false) (u : Unstarted plan (s .execution)) where
+  pub first-grant-placed : SoundPlan plan → (g : ℕ) → 1 ≤ g → Placed plan (grant g s .execution)
+  unfolding grant first-task-placed every in-deques occurrences
+  first-grant-placed sound zero l = absurd (not-suc-le-zero l)
+  first-grant-placed sound (suc n) l =
+      rw (off, u .no-deques, u .no-muggable, u .none-worked, first-deques n, none-withdrawn (suc n))
+      (record {
+        flags = length-replicate (tasks plan) false;
+        once = λ t. omega (arith, in-deques-empty t n, ap (λ (b : Bool). cond {A = ℕ} b 1 0) (first-waiting sound t));
+        filled = refl;
+        ordered = λ t h. absurd (true-is-not-false h (none-set (tasks plan) t));
+      })
+
+  pub first-grant-bounded : (g : ℕ) → 1 ≤ g → Bounded g (grant g s .execution)
+  unfolding grant first-task-placed busy
+  first-grant-bounded zero l = absurd (not-suc-le-zero l)
+  first-grant-bounded (suc n) l =
+      let none : List ℕ = [] in
+      rw (off, u .no-deques, u .no-muggable, first-deques n, none-withdrawn (suc n))
+      (record {
+        workers = omega (arith, length-replicate n none);
+        lines = omega (arith, busy-empty n);
+      })
+
+  -- a grant of 0 before it leaves nothing anywhere
+  pub no-grant-unstarted : Unstarted plan (grant 0 s .execution)
+  unfolding grant first-task-placed kept-deques
+  no-grant-unstarted =
+      rw (off, u .no-deques, u .no-muggable, u .none-worked, none-withdrawn 0)
+      (record { none-worked = refl; no-deques = refl; no-muggable = refl })

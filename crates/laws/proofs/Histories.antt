@@ -1,0 +1,381 @@
+-- What holds after any list of calls, refused ones included, by one induction: where the tasks stand (`arranged`), that the deques number at most
+-- the largest count granted so far (`largest-bounds`) and at most 64, and how large each count can be (`measured`, `numbers`).
+-- Assumes nothing.
+use mathlib.Core.Path.{_≡_, refl, sym, ap, _∙_}
+use mathlib.Core.Bool.{Bool, true, false, cond, not, _&&_}
+use mathlib.Core.List.{List, [], _∷_, _++_}
+use Prim.Native.Nat.{ℕ, zero, suc, _+_, _*_, _≤_, max}
+use native.Mathlib.Nat.{mul-suc, mul-le-mul, div-le-self}
+use native.Mathlib.Omega.{arith}
+use lib.Dec.{eqb, leb}
+use lib.ListN.{length, length-replicate}
+use borrow.Author.Tests.{eqb-false, ne-eqb, leb-true}
+use Rattle.model.specs.Plan.{Plan, tasks}
+use Rattle.model.specs.Machine.{Execution, State, allotment, idle, opened, ticks-of, fresh, grant, cycles, cycles-made, tick, ticked, closes, closed, finished, most-workers, next-desire, Call, efficient-now, satisfied-now}
+use Rattle.model.specs.History.{ClosedQuantum, CurrentQuantum, none, begun-with, History, beginning, history-grant, history-tick, verdict, run}
+use Rattle.model.specs.Statements.{SoundPlan}
+use Rattle.laws.specs.Invariants.{busy, Placed, Bounded, Tallied}
+use Rattle.laws.specs.Reached.{Unstarted, Arranged, granted-in, largest-closed, largest-granted, OpenQuantum, Measured, Numbers}
+use Rattle.laws.proofs.Lists.{true-is-not-false, count-set-none, count-set-at-most}
+use Rattle.laws.proofs.Cycles.{cycles-allotment}
+use Rattle.laws.proofs.Placement.{cycles-placed, cycles-tallied}
+use Rattle.laws.proofs.Bounds.{bounded-more, cycles-bounded}
+use Rattle.laws.proofs.Grants.{grant-allotment, grant-placed, grant-bounded, first-grant-placed, first-grant-bounded, no-grant-unstarted}
+use Rattle.laws.proofs.Meaning.{cycles-counted, all-kinds, successes-are-steals, made-at-most}
+use Rattle.laws.proofs.Steps.{GrantAccepted, TickAccepted, tick-cases, tick-execution, tick-started, run-keeps}
+
+-- ---- where the tasks stand
+
+-- with no worker a tick does nothing
+pub unstarted-cycles : (plan : Plan) (e : Execution) → Unstarted plan e → (choices : List ℕ) → length choices ≡ length (e .deques) →
+    (cycles plan 0 choices e ≡ e) × (cycles-made plan 0 choices e ≡ [])
+unfolding cycles cycles-made
+unstarted-cycles plan e u [] h = (refl, refl)
+unstarted-cycles plan e u (c ∷ choices) h = let z : _≡_ {A = ℕ} (length (e .deques)) 0 = ap length (u .no-deques) in absurd (omega arith)
+
+module _ {plan : Plan} (sound : SoundPlan plan) where
+  pub fresh-arranged : Arranged plan (fresh plan)
+  unfolding fresh
+  fresh-arranged =
+      record {
+        before = λ h. record { none-worked = refl; no-deques = refl; no-muggable = refl };
+        after = λ h. absurd (true-is-not-false h refl);
+        tally = record { work-is-tasks = sym (count-set-none (tasks plan)) };
+      }
+
+  module _ (s : State) (a : Arranged plan s) where
+    still-unstarted : (g : ℕ) → grant g s .started ≡ false → Unstarted plan (grant g s .execution)
+    unfolding grant
+    still-unstarted zero h = no-grant-unstarted s h (a .before h)
+    still-unstarted (suc n) h = absurd (true-is-not-false refl (rw (ne-eqb (suc n) 0 (omega arith)) at h))
+
+    then-placed : (g : ℕ) → grant g s .started ≡ true → Placed plan (grant g s .execution)
+    unfolding grant
+    then-placed zero h = grant-placed s h 0 (a .after h)
+    then-placed (suc n) h = go (s .started) refl
+      where
+        go : (b : Bool) → s .started ≡ b → Placed plan (grant (suc n) s .execution)
+        go true on = grant-placed s on (suc n) (a .after on)
+        go false off = first-grant-placed s off (a .before off) sound (suc n) (omega arith)
+
+    pub grant-arranged : (g : ℕ) → Arranged plan (grant g s)
+    grant-arranged g =
+        record {
+          before = still-unstarted g;
+          after = then-placed g;
+          tally = unfold grant in record { work-is-tasks = a .tally .work-is-tasks };
+        }
+
+    pub tick-arranged : (choices : List ℕ) → TickAccepted choices s → Arranged plan (tick plan choices s)
+    tick-arranged choices t =
+        record {
+          before = λ h.
+              let off = sym (tick-started plan choices s) ∙ h in
+              rw (tick-execution plan choices s, unstarted-cycles plan (s .execution) (a .before off) choices (t .one-each) .0) (a .before off);
+          after = λ h.
+              let on = sym (tick-started plan choices s) ∙ h in
+              rw (tick-execution plan choices s) (cycles-placed sound (a .after on) 0 choices (omega (arith, t .one-each)));
+          tally = rw (tick-execution plan choices s) (go (s .started) refl);
+        }
+      where
+        go : (b : Bool) → s .started ≡ b → Tallied (cycles plan 0 choices (s .execution))
+        go true on = cycles-tallied sound (a .after on) (a .tally) 0 choices (omega (arith, t .one-each))
+        go false off = rw (unstarted-cycles plan (s .execution) (a .before off) choices (t .one-each) .0) (a .tally)
+
+  pub arranged : (calls : List Call) → Arranged plan (run plan calls .state)
+  unfolding beginning history-grant history-tick
+  arranged calls =
+      run-keeps plan (λ h. Arranged plan (h .state))
+      fresh-arranged
+      (λ g h t a. grant-arranged (h .state) a g)
+      (λ choices h t a. tick-arranged (h .state) a choices t)
+      calls
+
+module _ {plan : Plan} {s : State} (a : Arranged plan s) where
+  -- a job with a granted worker has started
+  pub workers-started : 1 ≤ allotment s → s .started ≡ true
+  workers-started h = go (s .started) refl
+    where
+      go : (b : Bool) → s .started ≡ b → s .started ≡ true
+      go true on = on
+      go false off = let z : allotment s ≡ 0 = ap length (a .before off .no-deques) in absurd (omega arith)
+
+  pub workers-placed : 1 ≤ allotment s → Placed plan (s .execution)
+  workers-placed h = a .after (workers-started h)
+
+  -- started or not, there is a flag for each task
+  pub flags-length : length (s .execution .worked) ≡ tasks plan
+  flags-length = go (s .started) refl
+    where
+      go : (b : Bool) → s .started ≡ b → length (s .execution .worked) ≡ tasks plan
+      go true on = a .after on .flags
+      go false off = ap length (a .before off .none-worked) ∙ length-replicate (tasks plan) false
+
+  pub work-at-most : s .execution .counts .works .work ≤ tasks plan
+  work-at-most = omega (arith, a .tally .work-is-tasks, count-set-at-most (s .execution .worked), flags-length)
+
+-- ---- how many deques
+
+unstarted-bounded : {plan : Plan} {e : Execution} (most : ℕ) → Unstarted plan e → Bounded most e
+unfolding busy
+unstarted-bounded {plan} {e} most u =
+    let a : length (e .deques) ≡ 0 = ap length (u .no-deques) in
+    let b : busy (e .deques) ≡ 0 = ap busy (u .no-deques) in
+    let c : length (e .muggable) ≡ 0 = ap length (u .no-muggable) in
+    record { workers = omega arith; lines = omega arith }
+
+pub arranged-grant-bounded : {plan : Plan} {s : State} {most : ℕ} → Arranged plan s → Bounded most (s .execution) → (g : ℕ) →
+    Bounded (max most g) (grant g s .execution)
+arranged-grant-bounded {plan} {s} {most} a b g = go (s .started) refl g
+  where
+    go : (on : Bool) → s .started ≡ on → (g : ℕ) → Bounded (max most g) (grant g s .execution)
+    go true on g = grant-bounded s on g b
+    go false off zero = unstarted-bounded (max most 0) (no-grant-unstarted s off (a .before off))
+    go false off (suc n) = bounded-more (omega arith) (first-grant-bounded s off (a .before off) (suc n) (omega arith))
+
+largest-append : (xs ys : List ClosedQuantum) → largest-closed (xs ++ ys) ≡ max (largest-closed xs) (largest-closed ys)
+unfolding largest-closed
+largest-append [] ys = omega arith
+largest-append (q ∷ xs) ys = omega (arith, largest-append xs ys)
+
+largest-verdict : (plan : Plan) (current : CurrentQuantum) (s : State) → largest-closed (verdict plan current s) ≡ granted-in current
+unfolding largest-closed
+largest-verdict plan none s = refl
+largest-verdict plan (begun-with wanted granted) s = omega arith
+
+-- a tick grants nothing
+tick-largest : (plan : Plan) (choices : List ℕ) (h : History) → largest-granted (history-tick plan choices h) ≡ largest-granted h
+unfolding history-tick largest-granted
+tick-largest plan choices h = go (closes plan after)
+  where
+    after : State
+    after = ticked plan choices (h .state)
+
+    go : (b : Bool) →
+        max (largest-closed (cond b (h .closed-quanta ++ verdict plan (h .current) after) (h .closed-quanta))) (granted-in (cond b none (h .current)))
+        ≡ max (largest-closed (h .closed-quanta)) (granted-in (h .current))
+    go true = omega (arith, largest-append (h .closed-quanta) (verdict plan (h .current) after), largest-verdict plan (h .current) after)
+    go false = refl
+
+record Largest (plan : Plan) (h : History) : Type 0 where
+  place : Arranged plan (h .state)
+  none-current : h .state .quantum ≡ idle → granted-in (h .current) ≡ 0
+  at-most : Bounded (largest-granted h) (h .state .execution)
+
+not-idle : {k : ℕ} → opened k ≡ idle → ⊥
+not-idle p = let z : _≡_ {A = ℕ} 0 1 = cc in omega arith
+
+closed-none : (plan : Plan) (choices : List ℕ) (h : History) → history-tick plan choices h .state .quantum ≡ idle →
+    granted-in (history-tick plan choices h .current) ≡ 0
+unfolding history-tick tick closed ticked
+closed-none plan choices h = go (closes plan (ticked plan choices (h .state)))
+  where
+    go : (b : Bool) → cond b (closed plan (ticked plan choices (h .state))) (ticked plan choices (h .state)) .quantum ≡ idle →
+        granted-in (cond b none (h .current)) ≡ 0
+    go true p = refl
+    go false p = absurd (not-idle p)
+
+module _ {plan : Plan} (sound : SoundPlan plan) where
+  largest-grant : (g : ℕ) (h : History) → GrantAccepted g (h .state) → Largest plan h → Largest plan (history-grant g h)
+  unfolding history-grant largest-granted grant
+  largest-grant g h t l =
+      record {
+        place = grant-arranged sound (h .state) (l .place) g;
+        none-current = λ p. absurd (not-idle p);
+        at-most =
+            let z = l .none-current (t .idle-quantum) in
+            bounded-more (omega arith) (arranged-grant-bounded (l .place) (l .at-most) g);
+      }
+
+  largest-tick : (choices : List ℕ) (h : History) → TickAccepted choices (h .state) → Largest plan h → Largest plan (history-tick plan choices h)
+  largest-tick choices h t l =
+      record {
+        place = unfold history-tick in tick-arranged sound (h .state) (l .place) choices t;
+        none-current = closed-none plan choices h;
+        at-most =
+            rw (tick-largest plan choices h)
+            (unfold history-tick in
+            rw (tick-execution plan choices (h .state)) (cycles-bounded plan (l .at-most) 0 choices (omega (arith, t .one-each))));
+      }
+
+  largest : (calls : List Call) → Largest plan (run plan calls)
+  largest calls =
+      run-keeps plan (Largest plan)
+      (unfold beginning fresh largest-granted in
+      record {
+        place = fresh-arranged sound;
+        none-current = λ p. refl;
+        at-most = unstarted-bounded (max (largest-closed []) 0) (fresh-arranged sound .before refl);
+      })
+      largest-grant
+      largest-tick
+      calls
+
+  -- the workers' non-empty deques and the muggable ones number at most the largest count granted so far
+  pub largest-bounds : (calls : List Call) → Bounded (largest-granted (run plan calls)) (run plan calls .state .execution)
+  largest-bounds calls = largest calls .at-most
+
+-- ---- how large the counts can be
+
+-- no rule takes the desire above 64
+desire-at-most : (plan : Plan) (desire : ℕ) (e s : Bool) → desire ≤ most-workers → next-desire plan desire e s ≤ most-workers
+unfolding next-desire
+desire-at-most plan desire false s h = omega (arith, div-le-self desire (plan .responsiveness))
+desire-at-most plan desire true true h = go (leb (desire * plan .responsiveness) most-workers) refl
+  where
+    go : (b : Bool) → leb (desire * plan .responsiveness) most-workers ≡ b → cond b (desire * plan .responsiveness) desire ≤ most-workers
+    go true e = leb-true (desire * plan .responsiveness) most-workers e
+    go false e = h
+desire-at-most plan desire true false h = h
+
+not-opened : {k : ℕ} → idle ≡ opened k → ⊥
+not-opened p = not-idle (sym p)
+
+opened-with : {j k : ℕ} → opened j ≡ opened k → j ≡ k
+opened-with p = cc
+
+module _ {plan : Plan} (sound : SoundPlan plan) where
+  pub fresh-measured : Measured plan (fresh plan)
+  unfolding fresh
+  fresh-measured =
+      record {
+        wanted = omega arith;
+        deques-at-most = unstarted-bounded most-workers (fresh-arranged sound .before refl);
+        quanta = omega arith;
+        current = λ k p. absurd (not-opened p);
+        usage-at-most = omega arith;
+        cycles-at-most = omega arith;
+        successful = omega arith;
+      }
+
+  pub grant-measured : {s : State} → Arranged plan s → Measured plan s → (g : ℕ) → GrantAccepted g s → Measured plan (grant g s)
+  grant-measured {s} a m g t =
+      unfold grant in
+      record {
+        wanted = m .wanted;
+        deques-at-most = bounded-more (omega (arith, t .wanted, m .wanted)) (arranged-grant-bounded a (m .deques-at-most) g);
+        quanta = t .more-quanta;
+        current = λ k p.
+            let none-yet = opened-with p in
+            let room-more = mul-suc (plan .quantum-length) (s .begun) in
+            record {
+              within = omega arith;
+              unclosed = λ f. omega (arith, sound .timed);
+              satisfiable = omega (arith, grant-allotment g s, t .wanted);
+              usage-so-far = omega arith;
+              room = omega (arith, m .cycles-at-most);
+            };
+        usage-at-most = omega arith;
+        cycles-at-most = omega (arith, m .cycles-at-most, mul-suc (plan .quantum-length) (s .begun));
+        successful = m .successful;
+      }
+
+  pub tick-measured : {s : State} → Measured plan s → (choices : List ℕ) → TickAccepted choices s → Measured plan (tick plan choices s)
+  tick-measured {s} m choices t =
+      tick-cases plan choices s (Measured plan)
+      (λ c. unfold ticked closed in
+      record {
+        wanted = desire-at-most plan (s .desire) (efficient-now plan (ticked plan choices s)) (satisfied-now (ticked plan choices s)) (m .wanted);
+        deques-at-most = bound;
+        quanta = m .quanta;
+        current = λ k p. absurd (not-opened p);
+        usage-at-most = omega (arith, used, o .unclosed (t .unfinished), o .usage-so-far, few);
+        cycles-at-most = omega (arith, spent, o .unclosed (t .unfinished), o .room, few);
+        successful = succeeded;
+      })
+      (λ c. unfold ticked in
+      record {
+        wanted = m .wanted;
+        deques-at-most = bound;
+        quanta = m .quanta;
+        current = λ k p.
+            let next = opened-with p in
+            let open-before = o .unclosed (t .unfinished) in
+            record {
+              within = omega arith;
+              unclosed = λ f. omega (arith, not-yet c f);
+              satisfiable = omega (arith, same-allotment, o .satisfiable);
+              usage-so-far = omega (arith, used, o .usage-so-far, few);
+              room = omega (arith, spent, o .room, few);
+            };
+        usage-at-most = omega (arith, used, o .unclosed (t .unfinished), o .usage-so-far, few);
+        cycles-at-most = omega (arith, spent, o .unclosed (t .unfinished), o .room, few);
+        successful = succeeded;
+      })
+    where
+      e : Execution
+      e = s .execution
+
+      k : ℕ
+      k = ticks-of (s .quantum)
+
+      after : Execution
+      after = cycles plan 0 choices e
+
+      o : OpenQuantum plan s k
+      o = m .current k (t .open-quantum)
+
+      fits : 0 + length choices ≤ length (e .deques)
+      fits = omega (arith, t .one-each)
+
+      few : length (cycles-made plan 0 choices e) ≤ most-workers
+      few = omega (arith, made-at-most plan choices 0 e, t .one-each, m .deques-at-most .workers)
+
+      used : after .counts .usage ≤ e .counts .usage + length (cycles-made plan 0 choices e)
+      used = omega (arith, cycles-counted plan 0 choices e fits .nonsteal-usage, all-kinds (cycles-made plan 0 choices e))
+
+      spent : after .counts .works .work + after .counts .mugs .mug + after .counts .steals .steal
+          ≡ e .counts .works .work + e .counts .mugs .mug + e .counts .steals .steal + length (cycles-made plan 0 choices e)
+      spent =
+          let c = cycles-counted plan 0 choices e fits in
+          omega (arith, c .work, c .mug, c .steal, all-kinds (cycles-made plan 0 choices e))
+
+      succeeded : after .counts .successes ≤ after .counts .steals .steal
+      succeeded =
+          let c = cycles-counted plan 0 choices e fits in
+          omega (arith, c .success, c .steal, successes-are-steals (cycles-made plan 0 choices e), m .successful)
+
+      bound : Bounded most-workers after
+      bound = cycles-bounded plan (m .deques-at-most) 0 choices fits
+
+      same-allotment : length (after .deques) ≡ length (e .deques)
+      same-allotment = cycles-allotment plan choices 0 e fits
+
+      not-yet : closes plan (ticked plan choices s) ≡ false → finished after ≡ false → suc k ≡ plan .quantum-length → ⊥
+      not-yet c f = eqb-false (suc k) (plan .quantum-length) (go (finished after) f (unfold closes ticked in c))
+        where
+          go : (b : Bool) → b ≡ false → (not b && eqb (suc k) (plan .quantum-length)) ≡ false → eqb (suc k) (plan .quantum-length) ≡ false
+          go false p q = q
+          go true p q = absurd (true-is-not-false refl p)
+
+  record Kept (h : History) : Type 0 where
+    place : Arranged plan (h .state)
+    size : Measured plan (h .state)
+
+  pub measured : (calls : List Call) → Measured plan (run plan calls .state)
+  measured calls =
+      run-keeps plan Kept
+      (unfold beginning in record { place = fresh-arranged sound; size = fresh-measured })
+      (λ g h t q. unfold history-grant in
+      record { place = grant-arranged sound (h .state) (q .place) g; size = grant-measured (q .place) (q .size) g t })
+      (λ choices h t q. unfold history-tick in
+      record { place = tick-arranged sound (h .state) (q .place) choices t; size = tick-measured (q .size) choices t })
+      calls
+      .size
+
+-- ---- in numbers
+
+pub numbers-of : {plan : Plan} {s : State} → plan .quantum-length ≤ 65535 → tasks plan ≤ 1024 → Arranged plan s → Measured plan s → Numbers s
+numbers-of {plan} {s} short small a m =
+    let product = mul-le-mul short (m .quanta) in
+    record {
+      work = omega (arith, work-at-most a);
+      usage = omega (arith, m .usage-at-most);
+      all-cycles = omega (arith, m .cycles-at-most);
+      successes = omega (arith, m .cycles-at-most, m .successful);
+      begun = m .quanta;
+    }
+
+pub numbers : {plan : Plan} → SoundPlan plan → plan .quantum-length ≤ 65535 → tasks plan ≤ 1024 → (calls : List Call) →
+    Numbers (run plan calls .state)
+numbers sound short small calls = numbers-of short small (arranged sound calls) (measured sound calls)
