@@ -1,5 +1,5 @@
 -- What holds after any list of calls, refused ones included, by one induction: where the tasks stand (`arranged`), that the deques number at most
--- the largest count granted so far (`largest-bounds`) and at most 64, and how large each count can be (`measured`, `numbers`).
+-- the largest count granted so far (`largest-bounds`) and at most 64, and how large each count can be (`measured`, `counts-fit`).
 -- Assumes nothing.
 use mathlib.Core.Path.{_≡_, refl, sym, ap, _∙_}
 use mathlib.Core.Bool.{Bool, true, false, cond, not, _&&_}
@@ -15,7 +15,7 @@ use Rattle.model.specs.Machine.{Execution, State, allotment, idle, opened, tick
 use Rattle.model.specs.History.{ClosedQuantum, CurrentQuantum, none, begun-with, History, beginning, history-grant, history-tick, verdict, run}
 use Rattle.model.specs.Statements.{SoundPlan}
 use Rattle.laws.specs.Invariants.{busy, Placed, Bounded, Tallied}
-use Rattle.laws.specs.Reached.{Unstarted, Arranged, granted-in, largest-closed, largest-granted, OpenQuantum, Measured, Numbers}
+use Rattle.laws.specs.Reached.{Unstarted, Arranged, granted-in, largest-closed, largest-granted, OpenQuantum, Measured, CountsFit}
 use Rattle.laws.proofs.Lists.{true-is-not-false, count-set-none, count-set-at-most}
 use Rattle.laws.proofs.Cycles.{cycles-allotment}
 use Rattle.laws.proofs.Placement.{cycles-placed, cycles-tallied}
@@ -261,7 +261,7 @@ module _ {plan : Plan} (sound : SoundPlan plan) where
             record {
               within = omega arith;
               unclosed = λ f. omega (arith, sound .timed);
-              satisfiable = omega (arith, grant-allotment g s, t .wanted);
+              granted = omega (arith, grant-allotment g s, t .wanted);
               usage-so-far = omega arith;
               room = omega (arith, m .cycles-at-most);
             };
@@ -294,7 +294,7 @@ module _ {plan : Plan} (sound : SoundPlan plan) where
             record {
               within = omega arith;
               unclosed = λ f. omega (arith, not-yet c f);
-              satisfiable = omega (arith, same-allotment, o .satisfiable);
+              granted = omega (arith, same-allotment, o .granted);
               usage-so-far = omega (arith, used, o .usage-so-far, few);
               room = omega (arith, spent, o .room, few);
             };
@@ -365,8 +365,8 @@ module _ {plan : Plan} (sound : SoundPlan plan) where
 
 -- ---- in numbers
 
-pub numbers-of : {plan : Plan} {s : State} → plan .quantum-length ≤ 65535 → tasks plan ≤ 1024 → Arranged plan s → Measured plan s → Numbers s
-numbers-of {plan} {s} short small a m =
+pub counts-fit-of : {plan : Plan} {s : State} → plan .quantum-length ≤ 65535 → tasks plan ≤ 1024 → Arranged plan s → Measured plan s → CountsFit s
+counts-fit-of {plan} {s} short small a m =
     let product = mul-le-mul short (m .quanta) in
     record {
       work = omega (arith, work-at-most a);
@@ -376,6 +376,6 @@ numbers-of {plan} {s} short small a m =
       begun = m .quanta;
     }
 
-pub numbers : {plan : Plan} → SoundPlan plan → plan .quantum-length ≤ 65535 → tasks plan ≤ 1024 → (calls : List Call) →
-    Numbers (run plan calls .state)
-numbers sound short small calls = numbers-of short small (arranged sound calls) (measured sound calls)
+pub counts-fit : {plan : Plan} → SoundPlan plan → plan .quantum-length ≤ 65535 → tasks plan ≤ 1024 → (calls : List Call) →
+    CountsFit (run plan calls .state)
+counts-fit sound short small calls = counts-fit-of short small (arranged sound calls) (measured sound calls)

@@ -28,10 +28,6 @@ pub not-true-is-false : (b : Bool) → (b ≡ true → ⊥) → b ≡ false
 not-true-is-false true h = absurd (h refl)
 not-true-is-false false h = refl
 
-pub true-or-false : (b : Bool) → (b ≡ true) ⊎ (b ≡ false)
-true-or-false true = inl refl
-true-or-false false = inr refl
-
 pub and-left : (a b : Bool) → (a && b) ≡ true → a ≡ true
 and-left true b h = refl
 and-left false b h = h

@@ -1,0 +1,287 @@
+-- Each inefficient quantum has an earlier efficient and satisfied partner, and no two share one. The induction carries a stack: for the
+-- desire R^k, one unused efficient and satisfied quantum for each power below k. An end that raises the desire puts its quantum on top; an
+-- inefficient one takes the top as its partner; any other end leaves the stack.
+-- Assumes nothing but how a quantum may end (QuantumEnd of Powers).
+use mathlib.Core.Path.{_≡_, refl, sym, ap, _∙_}
+use mathlib.Core.Bool.{true, false, cond}
+use mathlib.Core.Logic.{_⊎_, inl, inr}
+use mathlib.Core.List.{List, [], _∷_, _++_}
+use Prim.Native.Nat.{ℕ, suc, _*_, _^_, _≤_, _<_}
+use native.Mathlib.Omega.{arith}
+use native.Mathlib.Nat.{pow-suc, one-le-pow, mul-le-mul-right, one-mul, eq-or-lt-of-le, le-of-suc-le-suc}
+use lib.Dec.{eqb}
+use lib.ListN.{length, length-append, List·getD-append}
+use lib.Seq.{getD-append-seam}
+use borrow.Author.Tests.{eq-eqb, ne-eqb}
+use Rattle.model.specs.Plan.{Plan}
+use Rattle.model.specs.History.{ClosedQuantum}
+use Rattle.model.specs.Statements.{Pairing, Inefficient, OneIsEfficient, nth, no-quantum}
+use Rattle.laws.proofs.Powers.{QuantumEnd, lowers, raises, stays}
+
+-- ---- a function changed at one number
+
+updated : (ℕ → ℕ) → ℕ → ℕ → ℕ → ℕ
+updated f n v i = cond (eqb i n) v (f i)
+
+updated-at : (f : ℕ → ℕ) (n v : ℕ) → updated f n v n ≡ v
+unfolding updated
+updated-at f n v = rw (eq-eqb n n refl)
+
+updated-below : (f : ℕ → ℕ) (n v i : ℕ) → i < n → updated f n v i ≡ f i
+unfolding updated
+updated-below f n v i less = rw (ne-eqb i n (λ same. omega arith))
+
+-- ---- what the induction carries
+
+-- p is a partner of the inefficient quantum i
+pub record Paired (plan : Plan) (quanta : List ClosedQuantum) (i p : ℕ) : Type 0 where
+  pub earlier : p < i
+  pub efficient : nth quanta p .was-efficient ≡ true
+  pub satisfied : nth quanta p .was-satisfied ≡ true
+  pub wanted : nth quanta p .wanted * plan .responsiveness ≡ nth quanta i .wanted
+
+-- the quantum l may stand on the stack for the power j
+pub record Level (plan : Plan) (quanta : List ClosedQuantum) (j l : ℕ) : Type 0 where
+  pub there : l < length quanta
+  pub efficient : nth quanta l .was-efficient ≡ true
+  pub satisfied : nth quanta l .was-satisfied ≡ true
+  pub wanted : nth quanta l .wanted ≡ plan .responsiveness ^ j
+
+pub record Stacked (plan : Plan) (quanta : List ClosedQuantum) (k : ℕ) : Type 0 where
+  pub partner : ℕ → ℕ
+  pub paired : (i : ℕ) → Inefficient quanta i → Paired plan quanta i (partner i)
+  pub unshared : (i j : ℕ) → Inefficient quanta i → Inefficient quanta j → partner i ≡ partner j → i ≡ j
+  pub above-one : OneIsEfficient quanta
+  pub level : ℕ → ℕ
+  pub levels : (j : ℕ) → j < k → Level plan quanta j (level j)
+  pub apart : (i j : ℕ) → i < k → j < k → level i ≡ level j → i ≡ j
+  pub unused : (i j : ℕ) → Inefficient quanta i → j < k → partner i ≡ level j → ⊥
+
+pub pairing-of : (plan : Plan) (quanta : List ClosedQuantum) (k : ℕ) → Stacked plan quanta k → Pairing plan quanta
+pairing-of plan quanta k s =
+    record {
+      partner = s .partner;
+      earlier = λ i bad. s .paired i bad .earlier;
+      efficient = λ i bad. s .paired i bad .efficient;
+      satisfied = λ i bad. s .paired i bad .satisfied;
+      wanted = λ i bad. s .paired i bad .wanted;
+      unshared = s .unshared;
+    }
+
+no-inefficient : (i : ℕ) → Inefficient [] i → ⊥
+no-inefficient i bad = omega (arith, bad .0)
+
+pub stacked-none : (plan : Plan) → Stacked plan [] 0
+stacked-none plan =
+    record {
+      partner = λ i. 0;
+      paired = λ i bad. absurd (no-inefficient i bad);
+      unshared = λ i j bad worse same. absurd (no-inefficient i bad);
+      above-one = λ i bad. absurd (no-inefficient i bad);
+      level = λ j. 0;
+      levels = λ j less. absurd (omega arith);
+      apart = λ i j less lesser same. absurd (omega arith);
+      unused = λ i j bad less same. omega arith;
+    }
+
+-- ---- one quantum more
+
+below-suc : {j k : ℕ} → j < suc k → (j ≡ k) ⊎ (j < k)
+below-suc less = eq-or-lt-of-le (le-of-suc-le-suc less)
+
+module _ (plan : Plan) (quanta : List ClosedQuantum) (q : ClosedQuantum) where
+  abbrev more : List ClosedQuantum
+  more = quanta ++ q ∷ []
+
+  more-length : length more ≡ suc (length quanta)
+  more-length = length-append quanta (q ∷ []) ∙ omega arith
+
+  old : (i : ℕ) → i < length quanta → nth more i ≡ nth quanta i
+  old i less = List·getD-append quanta (q ∷ []) no-quantum i less
+
+  new : nth more (length quanta) ≡ q
+  new = getD-append-seam quanta q [] no-quantum
+
+  -- an inefficient quantum of the longer list is one of the shorter list, or q
+  data Place (i : ℕ) : Type 0 where
+    before : Inefficient quanta i → Place i
+    last : i ≡ length quanta → q .was-efficient ≡ false → Place i
+
+  place : (i : ℕ) → Inefficient more i → Place i
+  place i bad = go (below-suc (omega (arith, bad .0, more-length)))
+    where
+      go : (i ≡ length quanta) ⊎ (i < length quanta) → Place i
+      go (inl same) = last same (ap (λ c. c .was-efficient) (sym new ∙ ap (nth more) (sym same)) ∙ bad .1)
+      go (inr less) = before (less, ap (λ c. c .was-efficient) (sym (old i less)) ∙ bad .1)
+
+  paired-more : {i p : ℕ} → i < length quanta → Paired plan quanta i p → Paired plan more i p
+  paired-more {i} {p} less s =
+      let same = old i less in
+      let same′ = old p (omega (arith, s .earlier)) in
+      record {
+        earlier = s .earlier;
+        efficient = rw same′ (s .efficient);
+        satisfied = rw same′ (s .satisfied);
+        wanted = rw (same′, same) (s .wanted);
+      }
+
+  level-more : {j l : ℕ} → Level plan quanta j l → Level plan more j l
+  level-more {j} {l} s =
+      let same = old l (s .there) in
+      record {
+        there = omega (arith, s .there, more-length);
+        efficient = rw same (s .efficient);
+        satisfied = rw same (s .satisfied);
+        wanted = rw same (s .wanted);
+      }
+
+  -- q is efficient: the partners stay, and no quantum of theirs or of the stack is q
+  module _ (k : ℕ) (s : Stacked plan quanta k) where
+    module _ (is-efficient : q .was-efficient ≡ true) where
+      still : (i : ℕ) → Inefficient more i → Inefficient quanta i
+      still i bad = go (place i bad)
+        where
+          go : Place i → Inefficient quanta i
+          go (before was) = was
+          go (last same inefficient) = absurd (let z : _≡_ {A = ℕ} 0 1 = cc in omega arith)
+
+      kept : Stacked plan more k
+      kept =
+          record {
+            partner = s .partner;
+            paired = λ i bad. let was = still i bad in paired-more (was .0) (s .paired i was);
+            unshared = λ i j bad worse. s .unshared i j (still i bad) (still j worse);
+            above-one = λ i bad. let was = still i bad in rw (old i (was .0)) (s .above-one i was);
+            level = s .level;
+            levels = λ j less. level-more (s .levels j less);
+            apart = s .apart;
+            unused = λ i j bad. s .unused i j (still i bad);
+          }
+
+      -- q is satisfied too, and the desire rises: q goes on top of the stack
+      module _ (is-satisfied : q .was-satisfied ≡ true) (its-wanted : q .wanted ≡ plan .responsiveness ^ k) where
+        pushed-level : ℕ → ℕ
+        pushed-level = updated (s .level) k (length quanta)
+
+        top-level : Level plan more k (length quanta)
+        top-level =
+            record {
+              there = omega (arith, more-length);
+              efficient = rw new is-efficient;
+              satisfied = rw new is-satisfied;
+              wanted = rw new its-wanted;
+            }
+
+        pushed-levels : (j : ℕ) → (j ≡ k) ⊎ (j < k) → Level plan more j (pushed-level j)
+        unfolding pushed-level
+        pushed-levels j (inl same) = rw (same, updated-at) top-level
+        pushed-levels j (inr less) = rw (updated-below (s .level) k (length quanta) j less) (level-more (s .levels j less))
+
+        -- where the stack has q, and where not
+        pushed-top : (j : ℕ) → j ≡ k → pushed-level j ≡ length quanta
+        unfolding pushed-level
+        pushed-top j same = rw (same, updated-at)
+
+        pushed-under : (j : ℕ) → j < k → pushed-level j ≡ s .level j
+        unfolding pushed-level
+        pushed-under j less = updated-below (s .level) k (length quanta) j less
+
+        pushed-apart : (i j : ℕ) → (i ≡ k) ⊎ (i < k) → (j ≡ k) ⊎ (j < k) → pushed-level i ≡ pushed-level j → i ≡ j
+        pushed-apart i j (inl x) (inl y) same = omega arith
+        pushed-apart i j (inl x) (inr y) same =
+            absurd (omega (arith, pushed-top i x, pushed-under j y, s .levels j y .there))
+        pushed-apart i j (inr x) (inl y) same =
+            absurd (omega (arith, pushed-under i x, pushed-top j y, s .levels i x .there))
+        pushed-apart i j (inr x) (inr y) same = s .apart i j x y (sym (pushed-under i x) ∙ same ∙ pushed-under j y)
+
+        pushed-unused : (i j : ℕ) → Inefficient quanta i → (j ≡ k) ⊎ (j < k) → s .partner i ≡ pushed-level j → ⊥
+        pushed-unused i j bad (inl y) same = omega (arith, bad .0, s .paired i bad .earlier, pushed-top j y)
+        pushed-unused i j bad (inr y) same = s .unused i j bad y (same ∙ pushed-under j y)
+
+        pushed : Stacked plan more (suc k)
+        unfolding kept
+        pushed =
+            record {
+              partner = kept .partner;
+              paired = kept .paired;
+              unshared = kept .unshared;
+              above-one = kept .above-one;
+              level = pushed-level;
+              levels = λ j less. pushed-levels j (below-suc less);
+              apart = λ i j x y. pushed-apart i j (below-suc x) (below-suc y);
+              unused = λ i j bad y. pushed-unused i j (still i bad) (below-suc y);
+            }
+
+  -- q is inefficient: the top of the stack becomes its partner
+  module _ (k : ℕ) (s : Stacked plan quanta (suc k)) (its-wanted : q .wanted ≡ plan .responsiveness ^ suc k) (responsive : 2 ≤ plan .responsiveness)
+    where
+      top : Level plan quanta k (s .level k)
+      top = s .levels k (omega arith)
+
+      popped-partner : ℕ → ℕ
+      popped-partner = updated (s .partner) (length quanta) (s .level k)
+
+      popped-new : (i : ℕ) → i ≡ length quanta → popped-partner i ≡ s .level k
+      unfolding popped-partner
+      popped-new i same = rw (same, updated-at)
+
+      popped-old : (i : ℕ) → i < length quanta → popped-partner i ≡ s .partner i
+      unfolding popped-partner
+      popped-old i less = updated-below (s .partner) (length quanta) (s .level k) i less
+
+      newly-paired : Paired plan more (length quanta) (s .level k)
+      newly-paired =
+          let same = old (s .level k) (top .there) in
+          record {
+            earlier = top .there;
+            efficient = rw same (top .efficient);
+            satisfied = rw same (top .satisfied);
+            wanted = rw (same, new, top .wanted, its-wanted, pow-suc);
+          }
+
+      popped-paired : (i : ℕ) → Place i → Paired plan more i (popped-partner i)
+      popped-paired i (before was) = rw (popped-old i (was .0)) (paired-more (was .0) (s .paired i was))
+      popped-paired i (last same inefficient) = rw (popped-new i same, same) newly-paired
+
+      popped-unshared : (i j : ℕ) → Place i → Place j → popped-partner i ≡ popped-partner j → i ≡ j
+      popped-unshared i j (before x) (before y) same =
+          s .unshared i j x y (sym (popped-old i (x .0)) ∙ same ∙ popped-old j (y .0))
+      popped-unshared i j (before x) (last y e) same =
+          absurd (s .unused i k x (omega arith) (sym (popped-old i (x .0)) ∙ same ∙ popped-new j y))
+      popped-unshared i j (last x e) (before y) same =
+          absurd (s .unused j k y (omega arith) (sym (popped-old j (y .0)) ∙ sym same ∙ popped-new i x))
+      popped-unshared i j (last x e) (last y f) same = omega arith
+
+      popped-above-one : (i : ℕ) → Place i → 1 < nth more i .wanted
+      popped-above-one i (before was) = rw (old i (was .0)) (s .above-one i was)
+      popped-above-one i (last same e) =
+          let some : 1 ≤ plan .responsiveness ^ k = one-le-pow k (plan .responsiveness) (omega arith) in
+          let grown : 1 * plan .responsiveness ≤ plan .responsiveness ^ k * plan .responsiveness = mul-le-mul-right (plan .responsiveness) some in
+          let product : q .wanted ≡ plan .responsiveness ^ k * plan .responsiveness = its-wanted ∙ pow-suc _ _ in
+          rw (same, new) (omega (arith, one-mul (plan .responsiveness)))
+
+      popped-unused : (i j : ℕ) → Place i → j < k → popped-partner i ≡ s .level j → ⊥
+      popped-unused i j (before x) less same = s .unused i j x (omega arith) (sym (popped-old i (x .0)) ∙ same)
+      popped-unused i j (last x e) less same =
+          omega (arith, s .apart k j (omega arith) (omega arith) (sym (popped-new i x) ∙ same))
+
+      popped : Stacked plan more k
+      popped =
+          record {
+            partner = popped-partner;
+            paired = λ i bad. popped-paired i (place i bad);
+            unshared = λ i j bad worse. popped-unshared i j (place i bad) (place j worse);
+            above-one = λ i bad. popped-above-one i (place i bad);
+            level = s .level;
+            levels = λ j less. level-more (s .levels j (omega arith));
+            apart = λ i j x y. s .apart i j (omega arith) (omega arith);
+            unused = λ i j bad. popped-unused i j (place i bad);
+          }
+
+  -- the stack after any end of a quantum
+  pub stacked-end : (usage k after : ℕ) → 2 ≤ plan .responsiveness → q .wanted ≡ plan .responsiveness ^ k → QuantumEnd plan q usage k after →
+      Stacked plan quanta k → Stacked plan more after
+  stacked-end usage k after responsive its-wanted (lowers {k = j} inefficient) s = popped j s its-wanted responsive
+  stacked-end usage k after responsive its-wanted (raises {k = j} is-efficient is-satisfied all enough) s =
+      pushed j s is-efficient is-satisfied its-wanted
+  stacked-end usage k after responsive its-wanted (stays {k = j} is-efficient enough) s = kept j s is-efficient
