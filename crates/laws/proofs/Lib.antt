@@ -1,13 +1,10 @@
--- The proofs, by topic.
--- Whole: every statement of model's specs/Statements.antt, with a sound plan as its only assumption. A reader starts here.
--- DemandThree: demand 3 and its companions on the desire, from progress. Progress, Order, Meaning, Histories: what else holds after any list of
--- calls.
--- Steps, Runs: accepted calls, and how a property is carried through a list of calls. Grants: what a grant keeps. Cycles, Placement, Bounds: what
--- a worker's cycle and a tick's cycles keep. Lists, Readiness, Awaiting: lists and flags, when a task is ready, and how many predecessors it still
--- awaits.
+-- The proofs, by topic. Theorems has every law of a history on one page: a stranger reads it first.
+-- Lists, Readiness, Awaiting: lists and flags, when a task is ready, and how many predecessors it still awaits.
+-- Cycles, Placement, Bounds, Grants: what a worker's cycle, a tick's cycles and a grant keep.
+-- Steps, Runs: accepted calls, and how a property is carried through a list of calls. Histories: where the tasks stand and how large the
+-- counts are after any calls. Progress: some worker works or mugs. Order: each task once and in order. Meaning: what the counts count.
 -- Counting: what a tick and a grant do to the counts. Powers: the open quantum, and what a quantum's end does to the desire.
--- PairingLaw: the partners of the inefficient quanta. MugLimitLaw: the balance that bounds the mugs.
--- Carried: these three in one induction over the list of calls.
+-- PairingLaw: the partners of the inefficient quanta. MugLimitLaw: the balance that bounds the mugs. Carried: these in one induction.
 pub mod Lists
 pub mod Readiness
 pub mod Awaiting
@@ -26,5 +23,4 @@ pub mod Powers
 pub mod PairingLaw
 pub mod MugLimitLaw
 pub mod Carried
-pub mod DemandThree
-pub mod Whole
+pub mod Theorems

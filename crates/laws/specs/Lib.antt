@@ -3,4 +3,3 @@ pub mod Invariants
 pub mod Reached
 pub mod Meaning
 pub mod Awaited
-pub mod Whole
