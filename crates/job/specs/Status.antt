@@ -1,0 +1,10 @@
+-- The paper's number for each status.
+use Prim.Native.Nat.{ℕ}
+use Rattle.job.specs.declared.Status.{Status}
+use Rattle.job.specs.declared.Status.the-variants.{Fresh, Running, Held, Finished}
+
+abbrev pub status-number : Status → ℕ
+status-number Fresh = 0
+status-number Running = 1
+status-number Held = 2
+status-number Finished = 3
