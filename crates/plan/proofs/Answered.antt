@@ -55,8 +55,14 @@ module _ (bytes : List ℕ) (h : Header) (long-enough : 5 ≤ length bytes)
   header-asked : first-no (field-questions (h .form) (h .responsiveness) (h .utilization) (h .quantum) (h .tasks) (length bytes)) ≡ first-no (header-questions bytes)
   unfolding field-questions header-questions first-no
   header-asked =
-      rw (header-of-bytes .form-read, header-of-bytes .responsiveness-read, header-of-bytes .utilization-read, header-of-bytes .quantum-read,
-      header-of-bytes .tasks-read, le-leb 5 (length bytes) long-enough)
+      rw (
+        header-of-bytes .form-read,
+        header-of-bytes .responsiveness-read,
+        header-of-bytes .utilization-read,
+        header-of-bytes .quantum-read,
+        header-of-bytes .tasks-read,
+        le-leb 5 (length bytes) long-enough,
+      )
 
   module _ (a : PlanAnswer)
       (asked : answer-of a ≡ first-no (field-questions (h .form) (h .responsiveness) (h .utilization) (h .quantum) (h .tasks) (length bytes))) where
@@ -119,8 +125,8 @@ module _ (bytes : List ℕ) (h : Header) (read : HeaderRead bytes h) where
       unfolding graph-questions
       accepted-whole nine ten r e e-r e-u e-q e-n e-f e-s e-c =
           let passed =
-              two-accepted 9 10 (sym (question-9 bytes first second counts all-held) ∙ rw tasks-number at nine)
-              (sym (question-10 bytes first second counts all-held) ∙ rw tasks-number at ten) in
+          two-accepted 9 10 (sym (question-9 bytes first second counts all-held) ∙ rw tasks-number at nine)
+          (sym (question-10 bytes first second counts all-held) ∙ rw tasks-number at ten) in
           right-acceptance bytes r (graph-left ∙ passed) e
           (record-holds bytes first second counts all-held (r .plan) (e-r ∙ read .fields .responsiveness-read) (e-u ∙ read .fields .utilization-read)
           (e-q ∙ read .fields .quantum-read) (e-n ∙ tasks-number) e-f e-s e-c (graph-facts (plan-of bytes) passed))

@@ -63,16 +63,16 @@ module _ (bytes : List ℕ) (t : ℕ) (passed : first-no (task-questions bytes t
   pub held-more : (first second counts : List ℕ) → t < task-count bytes → Held bytes t first second counts →
       Held bytes (t + 1) (set first t (first-field bytes t)) (set second t (second-field bytes t)) (noted (noted counts (first-field bytes t)) (second-field bytes t))
   unfolding successor-fields counted
-  held-more first second counts l h = 
+  held-more first second counts l h =
       rw add-one
       (record {
         accepted-so-far = first-no-below (task-questions bytes) t ∙ (ap (λ a. and-then a (first-no (task-questions bytes t))) (h .accepted-so-far) ∙ passed);
         first-held = stored-held (first-field bytes) first t (h .first-ends) small (h .first-held);
         second-held = stored-held (second-field bytes) second t (h .second-ends) small (h .second-held);
         counts-held = λ u.
-          note-successors (counted bytes t) counts (task-count bytes) t (count-field bytes t) (first-field bytes t) (second-field bytes t)
-          (h .counts-ends .places) (omega arith) (facts .fields) (facts .targets) (h .counts-held) u
-          ∙ ap saturated (sym (keep-below (λ p. member u (successor-fields bytes p)) t));
+            note-successors (counted bytes t) counts (task-count bytes) t (count-field bytes t) (first-field bytes t) (second-field bytes t)
+            (h .counts-ends .places) (omega arith) (facts .fields) (facts .targets) (h .counts-held) u
+            ∙ ap saturated (sym (keep-below (λ p. member u (successor-fields bytes p)) t));
         first-ends = stored-ends (first-field bytes) first t (h .first-ends) small;
         second-ends = stored-ends (second-field bytes) second t (h .second-ends) small;
         counts-ends = noted-ends (task-count bytes) _ (second-field bytes t) second-inside (noted-ends (task-count bytes) counts (first-field bytes t) first-inside (h .counts-ends));

@@ -64,7 +64,11 @@ struct TaskFields {
 pub fn passed(answer: PlanAnswer) -> bool
     ensures { λ r. ⌜ r ≡ passes (answer-of answer) ⌝ }
 {
-    if let PlanAnswer::Accepted = answer { true } else { false }
+    if let PlanAnswer::Accepted = answer {
+        true
+    } else {
+        false
+    }
 }
 
 fn header_of(a: u8, b: u8, c: u8, d: u8, e: u8) -> Header
@@ -259,3 +263,68 @@ fn one_exit(n: usize, first: &[u16; 1024]) -> bool
     true
 }
 
+// No plan: the blank stands beside the answer.
+fn refusal(answer: PlanAnswer) -> Reading
+    ensures { λ r. ⌜ (r .answer ≡ answer) × (r .plan ≡ blank) ⌝ }
+{
+    Reading {
+        answer,
+        plan: PlanRecord {
+            responsiveness: 0,
+            utilization: 0,
+            quantum_length: 0,
+            tasks: 0,
+            first: [0u16; 1024],
+            second: [0u16; 1024],
+            predecessors: [0u8; 1024],
+        },
+    }
+}
+
+// The tasks and then the graph, after an accepted header.
+fn read_graph(bytes: &[u8], h: Header) -> Reading
+    requires { ⌜ HeaderRead (now bytes) h ⌝ }
+    ensures { λ r. ⌜ RightReading (now (bytes .entry)) r ⌝ }
+{
+    let n = h.tasks;
+    let mut first = [0u16; 1024];
+    let mut second = [0u16; 1024];
+    let mut predecessors = [0u8; 1024];
+    let answer = read_tasks(bytes, n, &mut first, &mut second, &mut predecessors);
+    if !passed(answer) {
+        return refusal(answer);
+    }
+    if !all_preceded(n, &predecessors) {
+        return refusal(PlanAnswer::BadPredecessors);
+    }
+    if !one_exit(n, &first) {
+        return refusal(PlanAnswer::LooseEnd);
+    }
+    Reading {
+        answer: PlanAnswer::Accepted,
+        plan: PlanRecord {
+            responsiveness: h.responsiveness as u8,
+            utilization: h.utilization as u8,
+            quantum_length: h.quantum as u16,
+            tasks: n as u16,
+            first,
+            second,
+            predecessors,
+        },
+    }
+}
+
+// The plan of any bytes, or the number of the first "no".
+pub fn read(bytes: &[u8]) -> Reading
+    ensures { λ r. ⌜ RightReading (now (bytes .entry)) r ⌝ }
+{
+    if bytes.len() < 5 {
+        return refusal(PlanAnswer::Short);
+    }
+    let h = header_of(bytes[0], bytes[1], bytes[2], bytes[3], bytes[4]);
+    let answer = header_answer(h, bytes.len());
+    if !passed(answer) {
+        return refusal(answer);
+    }
+    read_graph(bytes, h)
+}

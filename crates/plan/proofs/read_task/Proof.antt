@@ -60,13 +60,13 @@ element-write-second : tie.Need-element-write-second
 element-write-second c = search needs
 
 note-requires : tie.Need-note-requires
-note-requires c κs = 
+note-requires c κs =
     let p = c .before .before .before .before in
     first-small (start p .args .bytes .now) (start p .args .n) (start p .args .t) (p .before .before .task-of .result) (start p .pre .1 .number) (p .before .before .task-of .ensures) (p .before .task-answer .result) (p .before .task-answer .ensures)
     (sym (p .passed .ensures) ∙ c .before .before .before .if1 .taken)
 
 note-requires-2 : tie.Need-note-requires-2
-note-requires-2 c κs = 
+note-requires-2 c κs =
     let p = c .before .before .before .before .before .before in
     second-small (start p .args .bytes .now) (start p .args .n) (start p .args .t) (p .before .before .task-of .result) (start p .pre .1 .number) (p .before .before .task-of .ensures) (p .before .task-answer .result) (p .before .task-answer .ensures)
     (sym (p .passed .ensures) ∙ c .before .before .before .before .before .if1 .taken)

@@ -32,12 +32,14 @@ loop-less c = omega arith
 
 loop-again : tie.Need-loop-again Inv-loop μ-loop
 loop-again c =
-    let inv = c .before .before .before .before .before .before .before .loop .inv in
-    (omega arith, record {
-      whole = inv .1 .whole;
-      number = inv .1 .number;
-      held = c .before .before .read-task .ensures .held (passes-is _ (sym (c .before .passed .ensures) ∙ c .if1 .taken));
-    })
+    let inv = c .before .before .before .before .before .before .before .loop .inv in (
+      omega arith,
+      record {
+        whole = inv .1 .whole;
+        number = inv .1 .number;
+        held = c .before .before .read-task .ensures .held (passes-is _ (sym (c .before .passed .ensures) ∙ c .if1 .taken));
+      },
+    )
 
 returns : tie.Need-returns Inv-loop μ-loop
 returns c =
