@@ -93,9 +93,10 @@ pub fn accept(bytes: &[u8]) -> Acceptance
     ensures { λ r. ⌜ Accepting (now (bytes .entry)) r ⌝ }
 {
     let reading = plan::read(bytes);
+    let answer = reading.answer;
     let p = reading.plan;
     Acceptance {
-        answer: reading.answer,
+        answer,
         job: fresh(p),
     }
 }
