@@ -1,8 +1,10 @@
 // The job record, by value. It carries its plan: a call takes a count or choices and nothing else. A thin layer over the in-place
 // core `engine`.
 ghost use mathlib.Core.Path.{_≡_};
+ghost use Rattle.model.specs.Machine.{grants, ticks, status};
+ghost use Rattle.job.specs.View.{FromCalls, job-state};
+ghost use Rattle.job.specs.Status.{status-number, StatusOf};
 ghost use Rattle.job.specs.Promises.{Accepting, Calling, no-numbers, fresh-job};
-ghost use Rattle.job.specs.View.{FromCalls};
 use deque::MugCycles;
 use deque::Numbers;
 use deque::StealCycles;
@@ -99,4 +101,93 @@ pub fn accept(bytes: &[u8]) -> Acceptance
         answer,
         job: fresh(p),
     }
+}
+
+// A grant of g workers. Refused, the record comes back unchanged.
+pub fn grant(job: Job, g: u8) -> Called
+    requires { ⌜ FromCalls job ⌝ }
+    ensures { λ r. ⌜ Calling (grants g) job r ⌝ }
+{
+    let mut ends = job.ends;
+    let moved = engine::grant(&mut ends, job.numbers, job.course, g);
+    let answer = moved.answer;
+    let numbers = moved.numbers;
+    let course = moved.course;
+    let first = job.first;
+    let second = job.second;
+    let pending = job.pending;
+    let next = job.next;
+    Called {
+        answer,
+        job: Job {
+            first,
+            second,
+            pending,
+            next,
+            ends,
+            numbers,
+            course,
+        },
+    }
+}
+
+// A tick with a choice for each granted worker. Refused, the record comes back unchanged.
+pub fn tick(job: Job, choices: &[u8]) -> Called
+    requires { ⌜ FromCalls job ⌝ }
+    ensures { λ r. ⌜ Calling (ticks (now (choices .entry))) job r ⌝ }
+{
+    let first = job.first;
+    let second = job.second;
+    let mut pending = job.pending;
+    let mut next = job.next;
+    let mut ends = job.ends;
+    let moved = engine::tick(
+        &first,
+        &second,
+        &mut pending,
+        &mut next,
+        &mut ends,
+        job.numbers,
+        job.course,
+        choices,
+    );
+    let answer = moved.answer;
+    let numbers = moved.numbers;
+    let course = moved.course;
+    Called {
+        answer,
+        job: Job {
+            first,
+            second,
+            pending,
+            next,
+            ends,
+            numbers,
+            course,
+        },
+    }
+}
+
+// The status of a job, from its numbers.
+pub fn status_of(m: Numbers, c: Course) -> Status
+    ensures { λ r. ⌜ StatusOf m c r ⌝ }
+{
+    if m.done == m.tasks {
+        return Status::Finished;
+    }
+    if !c.started {
+        return Status::Fresh;
+    }
+    if m.workers == 0 {
+        return Status::Held;
+    }
+    Status::Running
+}
+
+// The status of a record.
+pub fn job_status(job: Job) -> Status
+    requires { ⌜ FromCalls job ⌝ }
+    ensures { λ r. ⌜ status-number r ≡ status (job-state job) ⌝ }
+{
+    status_of(job.numbers, job.course)
 }
