@@ -1,3 +1,12 @@
+-- `turn::work_cycle` meets its contract.
+use mathlib.Core.Path.{_≡_, ap, _∙_}
+use Prim.Native.Nat.{ℕ, _<_}
+use native.Mathlib.Omega.{arith}
+use denote.Ref.{now}
+use lib.ListN.{getD}
+use Rattle.deque.specs.declared.Deque.{Deque}
+use Rattle.deque.specs.View.{size-at}
+use Rattle.turn.proofs.Working.{worker-place, front-inside, releasable, done-fits, work-done}
 use borrow.Author.Needs.{needs}
 use Rattle.turn.proofs.work_cycle.Statement.{statement}
 use Rattle.turn.proofs.work_cycle.Tie as tie
@@ -9,61 +18,61 @@ use Rattle.deque.proofs.release_successors.Reads as release-successors-reads
 use Rattle.deque.proofs.wide.Reads as wide-reads
 use Rattle.turn.proofs.after_work.Reads as after-work-reads
 
--- src/lib.rt:125:9
 deque-at-requires : tie.Need-deque-at-requires
-deque-at-requires c κs = ?
+deque-at-requires c κs = omega (arith, worker-place (c .before .pre))
 
--- src/lib.rt:126:9
 wide-requires : tie.Need-wide-requires
 wide-requires c κs = search needs
 
--- src/lib.rt:128:16
+-- the task at the front, and the deque's size
+task : (c : tie.After-wide) → c .wide .result ≡ getD (now (c .before .before .before .args .ends)) (c .before .before .before .args .w) 0
+task c = c .wide .ensures ∙ ap (λ (d : Deque). d .front) (c .before .deque-at .ensures)
+
+size : (c : tie.After-deque-at) → c .deque-at .result .size ≡ getD (now (c .before .before .args .ends)) (size-at (c .before .before .args .w)) 0
+size c = ap (λ (d : Deque). d .size) (c .deque-at .ensures)
+
+task-inside : (c : tie.After-wide) → c .wide .result < 1024
+task-inside c = rw (task c) (front-inside (c .before .before .before .pre))
+
 mul-two : tie.Need-mul-two
 mul-two c = search needs
 
--- src/lib.rt:128:16
 element-copy-out-two : tie.Need-element-copy-out-two
-element-copy-out-two c = ?
+element-copy-out-two c = task-inside c
 
--- src/lib.rt:129:15
 sub-one : tie.Need-sub-one
-sub-one c = ?
+sub-one c = rw (size (c .before .before .before)) (c .before .before .before .before .before .pre .filled)
 
--- src/lib.rt:131:5
 element-write-pending : tie.Need-element-write-pending
-element-write-pending c = ?
+element-write-pending c = task-inside (c .before .before)
 
--- src/lib.rt:132:15
 mul-one : tie.Need-mul-one
 mul-one c = search needs
 
--- src/lib.rt:132:15
 element-copy-out-one : tie.Need-element-copy-out-one
-element-copy-out-one c = ?
+element-copy-out-one c = task-inside (c .before .before)
 
--- src/lib.rt:133:15
 mul-two-2 : tie.Need-mul-two-2
 mul-two-2 c = search needs
 
--- src/lib.rt:133:15
 element-copy-out-two-2 : tie.Need-element-copy-out-two-2
-element-copy-out-two-2 c = ?
+element-copy-out-two-2 c = task-inside (c .before .before .before)
 
--- src/lib.rt:134:9
 release-successors-requires : tie.Need-release-successors-requires
-release-successors-requires c κs = ?
+release-successors-requires c κs = rw (task (c .before .before .before .before .before .before), size (c .before .before .before .before .before .before .before)) (releasable (c .before .before .before .before .before .before .before .before .before .pre))
 
--- src/lib.rt:135:5
 put-requires : tie.Need-put-requires
-put-requires c κs = ?
+put-requires c κs = omega (arith, worker-place (c .before .before .before .before .before .before .before .before .before .before .before .pre))
 
--- src/lib.rt:136:5
 after-work-requires : tie.Need-after-work-requires
-after-work-requires c κs = ?
+after-work-requires c κs = (c .before .before .before .before .before .before .before .before .before .before .before .before .pre .turn .room, done-fits (c .before .before .before .before .before .before .before .before .before .before .before .before .pre))
 
--- src/lib.rt:113:1
 returns : tie.Need-returns
-returns c = ?
+returns c =
+    work-done (c .before .before .before .before .before .before .before .before .before .before .before .before .before .pre)
+    (rw (task (c .before .before .before .before .before .before .before .before .before .before), size (c .before .before .before .before .before .before .before .before .before .before .before)) at (c .before .before .before .release-successors .ensures))
+    (c .before .put .ensures)
+    (c .after-work .ensures)
 
 pub work-cycle-spec : {M : Type 1} → statement M
 work-cycle-spec =
