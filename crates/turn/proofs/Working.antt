@@ -25,6 +25,7 @@ use Rattle.deque.specs.declared.Numbers.{Numbers}
 use Rattle.deque.specs.View.{walk, tasks-of, size-at, ends-at, put-deque, deque-at, deques-view, ring-place, muggable-view, worked-view, worked-mark, shown, successors-at, successors-view, graph, view}
 use Rattle.deque.specs.Steps.{AllReleasable, AllReleased, each-less, last-awaited}
 use Rattle.deque.specs.Sound.{Sizes, Kept, Sound, awaited, Room}
+use Rattle.deque.proofs.Walks.{walk-front}
 use Rattle.deque.proofs.Tables.{table-set}
 use Rattle.deque.proofs.Awaits.{ready-awaits-none, awaited-less, awaited-at-most}
 use Rattle.deque.proofs.Views.{deque-at-is, deque-length, worker-at, workers-shown, muggable-at, worked-at, flags-shown, tasks-shown, successors-shown, put-places, put-deques, put-muggable, links-deques, links-muggable, less-length, less-at}
@@ -36,12 +37,6 @@ same-kept : (f g : ℕ → Bool) (xs : List ℕ) → ((x : ℕ) → List·Memᴰ
 unfolding keep
 same-kept f g [] h = refl
 same-kept f g (x ∷ xs) h = rw (h x (List·Memᴰ·head refl), same-kept f g xs (λ y m. h y (List·Memᴰ·tail m)))
-
--- a deque's first task stands before the walk from its link
-walk-front : (next : List ℕ) (front size : ℕ) → 1 ≤ size → walk next front size ≡ front ∷ walk next (getD next front 0) (size - 1)
-unfolding walk
-walk-front next front zero h = absurd (omega arith)
-walk-front next front (suc size) h = let less : suc size - 1 ≡ size = omega arith in rw less
 
 -- what stands nowhere in a deque stands nowhere behind its front
 behind : (s x : ℕ) (xs : List ℕ) → occurrences s (x ∷ xs) ≡ 0 → occurrences s xs ≡ 0
