@@ -96,8 +96,8 @@ module _ {first second pending next ends : List ℕ} {m : Numbers} {w choice : �
       Worked first second pending next ends m w pending′ next′ ends′ m′ → Cycled first second pending next ends m w choice pending′ next′ ends′ m′
   cycled-work q some r =
       let own : deque-of e w ≡ getD ends w 0 ∷ walk next (getD next (getD ends w 0) 0) (getD ends (size-at w) 0 - 1) =
-          worker-at next ends (m .workers) w (turn .turn .worker) ∙ deque-at-is next ends w
-          ∙ walk-front next (getD ends w 0) (getD ends (size-at w) 0) (work-turn q some .filled) in
+      worker-at next ends (m .workers) w (turn .turn .worker) ∙ deque-at-is next ends w
+      ∙ walk-front next (getD ends w 0) (getD ends (size-at w) 0) (work-turn q some .filled) in
       cycled
       (r .shows ∙ sym (works plan w choice e (getD ends w 0) (walk next (getD next (getD ends w 0) 0) (getD ends (size-at w) 0 - 1)) own))
       (r .sizes)
@@ -136,8 +136,8 @@ module _ {first second pending next ends : List ℕ} {m : Numbers} {w choice : �
   cycled-mug q none some r =
       let more : m .waiting ≡ suc (m .waiting - 1) = omega arith in
       let waiting : e .muggable ≡ deque-at next ends (64 + m .head) ∷ muggable-view next ends ((m .head + 1) % 64) (m .waiting - 1) =
-          ap (muggable-view next ends (m .head)) more
-          ∙ ring-tail next ends (m .head) ((m .head + 1) % 64) (m .waiting - 1) (sound .kept .head-in-ring) refl in
+      ap (muggable-view next ends (m .head)) more
+      ∙ ring-tail next ends (m .head) ((m .head + 1) % 64) (m .waiting - 1) (sound .kept .head-in-ring) refl in
       cycled
       (r .shows pending next
       ∙ sym (mugs plan w choice e (deque-at next ends (64 + m .head)) (muggable-view next ends ((m .head + 1) % 64) (m .waiting - 1)) (own-empty q none) waiting))
@@ -162,10 +162,10 @@ module _ {first second pending next ends : List ℕ} {m : Numbers} {w choice : �
   links-inside =
       every-from (λ t. ltb t 1024) (walk next (getD ends choice 0) (getD ends (size-at choice) 0))
       (λ t mem.
-        let here : deque-of e choice ≡ walk next (getD ends choice 0) (getD ends (size-at choice) 0) =
-            worker-at next ends (m .workers) choice (turn .chosen) ∙ deque-at-is next ends choice in
-        lt-ltb t 1024
-        (omega (arith, worker-has (sound .lawful .placed) t choice (rw here mem) .of-plan, tasks-shown first second (m .tasks), sound .few-tasks)))
+      let here : deque-of e choice ≡ walk next (getD ends choice 0) (getD ends (size-at choice) 0) =
+      worker-at next ends (m .workers) choice (turn .chosen) ∙ deque-at-is next ends choice in
+      lt-ltb t 1024
+      (omega (arith, worker-has (sound .lawful .placed) t choice (rw here mem) .of-plan, tasks-shown first second (m .tasks), sound .few-tasks)))
 
   pub steal-turn : StealTurn next ends m w choice
   steal-turn =

@@ -142,7 +142,7 @@ module _ {first second pending next ends : List ℕ} {m : Numbers} {w : ℕ} (tu
     nowhere-muggable i l =
         let none = released-stand-nowhere placed t t-of-plan (front .unworked) s mem .1 in
         let one : occurrences s (getD (muggable-view next ends (m .head) (m .waiting)) i []) ≡ 0 =
-            omega (arith, none, one-deque s (muggable-view next ends (m .head) (m .waiting)) i) in
+        omega (arith, none, one-deque s (muggable-view next ends (m .head) (m .waiting)) i) in
         rw (muggable-at next ends (m .head) (m .waiting) i l) at one
 
     nowhere-behind : occurrences s (tasks-of next rest) ≡ 0
@@ -205,7 +205,7 @@ module _ {first second pending next ends : List ℕ} {m : Numbers} {w : ℕ} (tu
     own-number : getD pending′ t 0 ≡ worked-mark
     own-number =
         let alone : member t (successors-of plan t) ≡ false =
-            not-true-is-false (member t (successors-of plan t)) (λ is. omega (arith, above (sound .planned) t t t-of-plan is)) in
+        not-true-is-false (member t (successors-of plan t)) (λ is. omega (arith, above (sound .planned) t t t-of-plan is)) in
         omega (arith, number-after t, no-member t (successors-of plan t) alone, getD-set-same pending t worked-mark 0 (rw (sound .sizes .numbers) front-inside))
 
     mark-same : (x : ℕ) → (x ≡ t → ⊥) → (b : Bool) → member x (successors-of plan t) ≡ b →
@@ -232,7 +232,7 @@ module _ {first second pending next ends : List ℕ} {m : Numbers} {w : ℕ} (tu
     right-at x l unworked ne true is = number-less x is
     right-at x l unworked ne false is =
         let as-before : awaited plan worked x ≡ awaited plan (set worked t true) x + 0 =
-            awaited-less plan worked t t-of-plan flag (front .unworked) x ∙ rw is in
+        awaited-less plan worked t t-of-plan flag (front .unworked) x ∙ rw is in
         omega (arith, number-same x ne is, sound .kept .pending-right x l unworked, as-before)
 
     kept-after : Kept plan pending′ (after-work m)
@@ -257,8 +257,11 @@ module _ {first second pending next ends : List ℕ} {m : Numbers} {w : ℕ} (tu
     unfolding released
     own-after =
         r .pushed
-        ∙ rw (← fields, own,
-          same-kept (last-awaited (set pending t worked-mark)) (ready plan (set worked t true)) (successors-of plan t) came-ready)
+        ∙ rw (
+          ← fields,
+          own,
+          same-kept (last-awaited (set pending t worked-mark)) (ready plan (set worked t true)) (successors-of plan t) came-ready,
+        )
 
     undisturbed : (p : ℕ) → ((s : ℕ) → List·Memᴰ s (successors-of plan t) → occurrences s (deque-at next ends p) ≡ 0) →
         deque-at next′ ends p ≡ deque-at next ends p

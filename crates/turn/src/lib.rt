@@ -4,7 +4,6 @@ use deque::MugCycles;
 use deque::Numbers;
 use deque::StealCycles;
 use deque::WorkCycles;
-
 ghost use mathlib.Core.Path.{_≡_};
 ghost use Prim.Native.Nat.{_+_, _≤_, _<_};
 ghost use lib.ListN.{length};
@@ -86,7 +85,13 @@ pub fn mug_cycle(ends: &mut [u16; 256], w: usize, m: Numbers) -> Numbers
 }
 
 // A steal cycle: of a deque of two or more tasks the back part becomes the thief's deque; of any other nothing moves.
-pub fn steal_cycle(next: &[u16; 1024], ends: &mut [u16; 256], w: usize, choice: usize, m: Numbers) -> Numbers
+pub fn steal_cycle(
+    next: &[u16; 1024],
+    ends: &mut [u16; 256],
+    w: usize,
+    choice: usize,
+    m: Numbers,
+) -> Numbers
     requires { ⌜ StealTurn (now next) (now ends) m w choice ⌝ }
     ensures { λ r. ⌜ Stolen (now (next .entry)) (now (ends .entry)) m w choice (now (ends .exit)) r ⌝ }
 {
@@ -105,7 +110,14 @@ pub fn steal_cycle(next: &[u16; 1024], ends: &mut [u16; 256], w: usize, choice: 
             size: left,
         },
     );
-    deque::put(ends, w, Deque { front: front, size: taken });
+    deque::put(
+        ends,
+        w,
+        Deque {
+            front: front,
+            size: taken,
+        },
+    );
     after_steal(m, 1)
 }
 
