@@ -113,7 +113,7 @@ module _ (m : Numbers) (c : Course) (is-open : c .«is_open» ≡ true) where
               ne-eqb (m .done) (m .tasks) undone,
               eq-eqb (suc (c .ticks)) (c .«quantum_length») (sym (add-one (c .ticks)) ∙ last),
               workers-shown,
-              after .next (plan-view first second (m .tasks) c) refl (record { at-utilization = refl; at-length = refl })
+              after .next (plan-view first second (m .tasks) c) refl (record { at-utilization = refl; at-length = refl }),
             )
             refl;
       }

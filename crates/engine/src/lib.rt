@@ -118,11 +118,19 @@ pub fn grant(ends: &mut [u16; 256], m: Numbers, c: Course, g: u8) -> Moved
 {
     let answer = grant_answer(m, c, g);
     let CallAnswer::Accepted = answer else {
-        return Moved { answer: answer, numbers: m, course: c };
+        return Moved {
+            answer: answer,
+            numbers: m,
+            course: c,
+        };
     };
     let numbers = allot::allot(ends, m, c.started, g);
     let course = open_quantum(c, g);
-    Moved { answer: answer, numbers: numbers, course: course }
+    Moved {
+        answer: answer,
+        numbers: numbers,
+        course: course,
+    }
 }
 
 // A tick is counted and, where the job is unfinished and the tick was the quantum's last, the quantum is closed. The numbers are those
@@ -139,7 +147,53 @@ fn end_tick(m: Numbers, c: Course) -> Course
     if r.ticks != c.quantum_length {
         return r;
     }
-    r.desire = quantum::next_desire(c.responsiveness, c.utilization, c.quantum_length, c.desire, m.workers, m.usage);
+    r.desire = quantum::next_desire(
+        c.responsiveness,
+        c.utilization,
+        c.quantum_length,
+        c.desire,
+        m.workers,
+        m.usage,
+    );
     r.is_open = false;
     r
+}
+
+// "A tick": the answer, and the job after it. The workers' cycles, then the end of the tick. Refused, it changes nothing.
+pub fn tick(
+    first: &[u16; 1024],
+    second: &[u16; 1024],
+    pending: &mut [u8; 1024],
+    next: &mut [u16; 1024],
+    ends: &mut [u16; 256],
+    m: Numbers,
+    c: Course,
+    choices: &[u8],
+) -> Moved
+    requires { ⌜ ((plan : Plan) × (calls : List Call) × Reached plan calls (now first) (now second) (now pending) (now next) (now ends) m c) ⌝ }
+    ensures { λ r. ⌜ TickMoves (now (choices .entry)) (now (first .entry)) (now (second .entry)) (now (pending .entry)) (now (next .entry)) (now (ends .entry)) m c (now (pending .exit)) (now (next .exit)) (now (ends .exit)) r ⌝ }
+{
+    let answer = tick_answer(m, c, choices);
+    let CallAnswer::Accepted = answer else {
+        return Moved {
+            answer: answer,
+            numbers: m,
+            course: c,
+        };
+    };
+    if m.workers == 0 {
+        let course = end_tick(m, c);
+        return Moved {
+            answer: answer,
+            numbers: m,
+            course: course,
+        };
+    }
+    let numbers = turn::cycles(first, second, pending, next, ends, choices, m);
+    let course = end_tick(numbers, c);
+    Moved {
+        answer: answer,
+        numbers: numbers,
+        course: course,
+    }
 }
