@@ -133,15 +133,15 @@ pub fn grant(ends: &mut [u16; 256], m: Numbers, c: Course, g: u8) -> Moved
     }
 }
 
-// A tick is counted and, where the job is unfinished and the tick was the quantum's last, the quantum is closed. The numbers are those
+// A tick is counted and, where the job is unfinished and the tick was the quantum's last, the quantum is closed. `after` are the numbers
 // after the tick's cycles.
-fn end_tick(m: Numbers, c: Course) -> Course
-    requires { ⌜ Countable m c ⌝ }
-    ensures { λ r. ⌜ CourseTicked m c r ⌝ }
+fn end_tick(after: Numbers, c: Course) -> Course
+    requires { ⌜ Countable after c ⌝ }
+    ensures { λ r. ⌜ CourseTicked after c r ⌝ }
 {
     let mut r = c;
     r.ticks = c.ticks + 1;
-    if m.done == m.tasks {
+    if after.done == after.tasks {
         return r;
     }
     if r.ticks != c.quantum_length {
@@ -152,8 +152,8 @@ fn end_tick(m: Numbers, c: Course) -> Course
         c.utilization,
         c.quantum_length,
         c.desire,
-        m.workers,
-        m.usage,
+        after.workers,
+        after.usage,
     );
     r.is_open = false;
     r
@@ -189,11 +189,11 @@ pub fn tick(
             course: course,
         };
     }
-    let numbers = turn::cycles(first, second, pending, next, ends, choices, m);
-    let course = end_tick(numbers, c);
+    let after = turn::cycles(first, second, pending, next, ends, choices, m);
+    let course = end_tick(after, c);
     Moved {
         answer: answer,
-        numbers: numbers,
+        numbers: after,
         course: course,
     }
 }
