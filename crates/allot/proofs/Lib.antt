@@ -1,0 +1,6 @@
+-- The proofs, by topic.
+pub mod Ring
+pub mod Withdrawals
+pub mod Clears
+pub mod Allotments
+pub mod Soundness

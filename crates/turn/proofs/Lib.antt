@@ -1,0 +1,7 @@
+-- The proofs, by topic.
+pub mod Executions
+pub mod Mugging
+pub mod Stealing
+pub mod Working
+pub mod Cycling
+pub mod Ticking
