@@ -20,7 +20,7 @@ use Rattle.laws.specs.Awaited.{still-awaited}
 use Rattle.laws.proofs.Readiness.{first-ready}
 use Rattle.laws.proofs.Awaiting.{awaits-none, awaited-at-first}
 use Rattle.deque.specs.View.{graph, successors-view, successors-at, shown, view, worked-view, deques-view, muggable-view}
-use Rattle.deque.specs.Sound.{awaited}
+use Rattle.deque.specs.Sound.{awaited, Kept}
 use Rattle.deque.proofs.Tables.{table-length, table-at}
 use Rattle.deque.proofs.Views.{tasks-shown}
 use Rattle.plan.specs.View as PlanView
@@ -29,7 +29,7 @@ use Rattle.plan.specs.declared.Reading.{Reading}
 use Rattle.plan.specs.declared.PlanRecord.{PlanRecord}
 use Rattle.plan.proofs.Sound.{accepted-sound}
 use Rattle.engine.specs.View.{plan-view, state-view}
-use Rattle.engine.specs.Reached.{Reached, Kept, AcceptedPlan}
+use Rattle.engine.specs.Reached.{Reached, AcceptedPlan}
 use Rattle.job.specs.View.{job-plan, job-state, ReachedBy}
 use Rattle.job.specs.Promises.{fresh-job, no-numbers, blank-job, Accepting}
 use Rattle.job.specs.declared.Job.{Job}
@@ -97,27 +97,28 @@ module _ (bytes : List ℕ) (p : PlanRecord) (answer : plan-answer bytes ≡ acc
   awaits-all t less =
       rw (none-worked, same-predecessors, ← task-number) (holds .preceded t less ∙ sym (awaited-at-first (plan-of bytes) t))
 
-  kept : Kept (p .first) (p .second) (p .predecessors) (replicate 1024 0) (replicate 256 0) (no-numbers (p .tasks))
+  kept : Kept (graph (p .first) (p .second) (p .tasks)) (p .predecessors) (no-numbers (p .tasks))
   unfolding no-numbers
   kept =
       record {
-        first-size = holds .first-ends .places;
-        second-size = holds .second-ends .places;
-        pending-size = holds .predecessors-ends .places;
-        next-size = length-replicate {A = ℕ} 1024 0;
-        ends-size = length-replicate {A = ℕ} 256 0;
         pending-right = λ t less unworked. awaits-all t less;
         done-right = sym (ap count-set none-worked ∙ count-set-none (p .tasks));
         head-in-ring = omega arith;
       }
 
   pub fresh-reached : ReachedBy (plan-of bytes) [] (fresh-job p)
-  unfolding run run-from beginning fresh-job
+  unfolding run run-from beginning fresh-job no-numbers
   fresh-reached =
       record {
         accepted-plan = record { bytes = bytes; answer = answer; given = refl };
         its-plan = fresh-plan;
         its-state = fresh-state;
+        sizes =
+            record {
+              numbers = holds .predecessors-ends .places;
+              links = length-replicate {A = ℕ} 1024 0;
+              places = length-replicate {A = ℕ} 256 0;
+            };
         kept = kept;
       }
 

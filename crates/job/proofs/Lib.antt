@@ -2,4 +2,5 @@
 -- Demands: demands 2 and 3 over every record that is reached. A stranger reads it first.
 pub mod Accepts
 pub mod Calls
+pub mod Statuses
 pub mod Demands
