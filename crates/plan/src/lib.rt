@@ -6,7 +6,7 @@ ghost use Prim.Native.Nat.{_+_, _*_, _-_, _≤_, _<_};
 ghost use lib.Dec.{leb, eqb};
 ghost use lib.ListN.{length, getD, drop};
 ghost use Rattle.model.specs.Tests.{below, every};
-ghost use Rattle.model.specs.Questions.{accepted, first-no};
+ghost use Rattle.model.specs.Questions.{accepted, first-no, answer-number};
 ghost use Rattle.model.specs.Plan.{task-count, task-questions};
 ghost use Rattle.plan.specs.Answers.{answer-of, passes};
 ghost use Rattle.plan.specs.Contracts.{HeaderOf, five-bytes, TaskOf, three-bytes, field-questions, pair-questions, noted, Due, TaskRead, TasksRead, one-or-two, followed, HeaderRead, blank, RightReading};
@@ -58,6 +58,25 @@ struct TaskFields {
     count: usize,
     first: usize,
     second: usize,
+}
+
+// The paper's number of a refusal, and 0 for acceptance.
+pub fn number(answer: PlanAnswer) -> u8
+    ensures { λ r. ⌜ r ≡ answer-number (answer-of answer) ⌝ }
+{
+    match answer {
+        PlanAnswer::Accepted => 0,
+        PlanAnswer::Short => 1,
+        PlanAnswer::UnknownForm => 2,
+        PlanAnswer::LowResponsiveness => 3,
+        PlanAnswer::BadUtilization => 4,
+        PlanAnswer::NoQuantum => 5,
+        PlanAnswer::WrongLength => 6,
+        PlanAnswer::BadFields => 7,
+        PlanAnswer::BadSuccessors => 8,
+        PlanAnswer::BadPredecessors => 9,
+        PlanAnswer::LooseEnd => 10,
+    }
 }
 
 // Is the answer acceptance?
