@@ -8,3 +8,4 @@ pub mod Arrays
 pub mod Steps
 pub mod Whole
 pub mod Answered
+pub mod Shown

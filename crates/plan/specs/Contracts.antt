@@ -2,11 +2,11 @@
 use mathlib.Core.Path.{_≡_}
 use mathlib.Core.Bool.{Bool, cond, not, _&&_}
 use mathlib.Core.List.{List, [], _∷_, flatMap}
-use Prim.Native.Nat.{ℕ, _+_, _*_, _-_, _≤_, _<_}
+use Prim.Native.Nat.{ℕ, _+_, _*_, _-_, _<_}
 use lib.Dec.{leb, ltb, eqb}
-use lib.ListN.{length, getD, set, drop, replicate}
-use Rattle.model.specs.Tests.{below, every, keep, member}
-use Rattle.model.specs.Questions.{Question, Answer, accepted, refused, ask, first-no}
+use lib.ListN.{length, getD, set, replicate}
+use Rattle.model.specs.Tests.{below, keep, member}
+use Rattle.model.specs.Questions.{Question, accepted, refused, ask, first-no}
 use Rattle.model.specs.Plan.{field, header, predecessors, task-count, first-field, second-field, used-fields, successor-fields, fields-ok, targets-ok, task-questions, header-questions, plan-of, plan-answer}
 use Rattle.plan.specs.declared.Header.{Header}
 use Rattle.plan.specs.declared.TaskFields.{TaskFields}

@@ -1,13 +1,10 @@
 // A plan's bytes become the plan, or the number of the first question whose answer is no. Nothing is asked of the bytes.
 ghost use mathlib.Core.Path.{_≡_};
-ghost use mathlib.Core.Bool.{not, _&&_};
-ghost use mathlib.Core.List.{flatMap};
+ghost use mathlib.Core.Bool.{not};
 ghost use Prim.Native.Nat.{_+_, _*_, _-_, _≤_, _<_};
-ghost use lib.Dec.{leb, eqb};
-ghost use lib.ListN.{length, getD, drop};
+ghost use lib.ListN.{drop};
 ghost use Rattle.model.specs.Tests.{below, every};
 ghost use Rattle.model.specs.Questions.{accepted, first-no, answer-number};
-ghost use Rattle.model.specs.Plan.{task-count, task-questions};
 ghost use Rattle.plan.specs.Answers.{answer-of, passes};
 ghost use Rattle.plan.specs.Contracts.{HeaderOf, five-bytes, TaskOf, three-bytes, field-questions, pair-questions, noted, Due, TaskRead, TasksRead, one-or-two, followed, HeaderRead, blank, RightReading};
 

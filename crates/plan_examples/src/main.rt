@@ -61,7 +61,8 @@ fn show(name: &[u8], bytes: &[u8]) {
     io::write_all(1, b"\n");
 }
 
-fn main() {
+// The paper's examples: Plan A, 8, 9 and 10.
+fn document_rows() {
     show(
         b"Plan A",
         b"\x15\x40\x00\x08\x03\x80\x08\x02\x40\x18\x00\x40\x18\x00\x00\x00\x00",
@@ -91,6 +92,10 @@ fn main() {
         b"10: D = 101",
         b"\x15\x94\x00\x08\x03\x80\x08\x02\x40\x18\x00\x40\x18\x00\x00\x00\x00",
     );
+}
+
+// Questions 1 to 5.
+fn header_rows() {
     show(b"no byte", b"");
     show(b"four bytes", b"\x15\x40\x00\x08");
     show(
@@ -109,6 +114,10 @@ fn main() {
         b"L = 65535",
         b"\x15\x43\xff\xfc\x03\x80\x08\x02\x40\x18\x00\x40\x18\x00\x00\x00\x00",
     );
+}
+
+// Questions 7 and 8, and their order.
+fn task_rows() {
     show(
         b"successor count 3",
         b"\x15\x40\x00\x08\x03\x80\x08\x02\xc0\x18\x02\x40\x18\x00\x00\x00\x00",
@@ -141,6 +150,10 @@ fn main() {
         b"7 of task 1 before 8 of task 2",
         b"\x15\x40\x00\x08\x03\x80\x08\x02\xc0\x18\x00\x40\x10\x00\x00\x00\x00",
     );
+}
+
+// Questions 9 and 10.
+fn graph_rows() {
     show(
         b"a task without predecessors",
         b"\x15\x40\x00\x08\x03\x40\x08\x00\x40\x18\x00\x40\x18\x00\x00\x00\x00",
@@ -153,4 +166,11 @@ fn main() {
         b"a loose end",
         b"\x15\x40\x00\x08\x03\x80\x08\x02\x00\x00\x00\x40\x18\x00\x00\x00\x00",
     );
+}
+
+fn main() {
+    document_rows();
+    header_rows();
+    task_rows();
+    graph_rows();
 }
