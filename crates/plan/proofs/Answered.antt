@@ -14,7 +14,8 @@ use Rattle.plan.specs.declared.PlanAnswer.the-variants.{Accepted, Short,
 use Rattle.plan.specs.declared.Header.{Header}
 use Rattle.plan.specs.declared.Reading.{Reading}
 use Rattle.plan.specs.Answers.{answer-of, passes}
-use Rattle.plan.specs.Contracts.{five-bytes, field-questions, HeaderOf, HeaderRead, Held, Due, TasksRead, one-or-two, followed, blank, Holds, RightReading}
+use Rattle.plan.specs.Contracts.{five-bytes, field-questions, HeaderOf, HeaderRead, Held, Due, TasksRead, one-or-two, followed}
+use Rattle.plan.specs.Promise.{blank, Holds, RightReading}
 use Rattle.plan.proofs.Asked.{passes-is, passes-not, stops, two-accepted, first-refused, second-refused}
 use Rattle.plan.proofs.Facts.{header-facts}
 use Rattle.plan.proofs.Sound.{answer-parts, graph-facts}

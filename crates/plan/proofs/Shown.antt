@@ -1,22 +1,20 @@
 -- Laws of the view for crates that hold a plan's record: what its arrays show, and that an accepted record shows a sound plan.
-use mathlib.Core.Path.{_≡_, sym, _∙_, ap, subst}
-use mathlib.Core.Bool.{cond}
-use mathlib.Core.List.{List, [], _∷_, map}
+use mathlib.Core.Path.{_≡_, sym, _∙_, subst}
+use mathlib.Core.List.{List, [], _∷_}
 use Prim.Native.Nat.{ℕ, _≤_, _<_}
 use native.Mathlib.Omega.{arith}
-use borrow.Author.Tests.{eq-eqb, ne-eqb}
-use lib.Dec.{eqb}
+use borrow.Author.Tests.{ne-eqb}
 use lib.ListN.{length, getD, length-map}
 use Rattle.model.specs.Tests.{below}
 use Rattle.model.specs.Questions.{accepted}
-use Rattle.model.specs.Plan.{Plan, tasks, successors-of, plan-of, plan-answer}
+use Rattle.model.specs.Plan.{tasks, successors-of, plan-answer}
 use Rattle.model.specs.Statements.{SoundPlan}
 use Rattle.plan.specs.declared.PlanRecord.{PlanRecord}
 use Rattle.plan.specs.declared.Reading.{Reading}
 use Rattle.plan.specs.Answers.{answer-of}
 use Rattle.plan.specs.View.{shown, successors-at, successors-view, plan-view}
 use Rattle.plan.specs.Rules.{WithinBounds}
-use Rattle.plan.specs.Contracts.{Holds, RightReading}
+use Rattle.plan.specs.Promise.{blank, Holds, RightReading}
 use Rattle.plan.proofs.Lists.{length-below, getD-map-below}
 use Rattle.plan.proofs.Sound.{accepted-sound, within-bounds}
 
@@ -53,6 +51,11 @@ view-tasks plan = view-length (plan .first) (plan .second) (plan .tasks)
 pub view-successors : (plan : PlanRecord) (t : ℕ) → t < plan .tasks → successors-of (plan-view plan) t ≡ successors-at (plan .first) (plan .second) t
 unfolding plan-view
 view-successors plan t l = view-at (plan .first) (plan .second) (plan .tasks) t l
+
+-- the blank shows no plan
+pub blank-is-no-plan : SoundPlan (plan-view blank) → ⊥
+unfolding blank
+blank-is-no-plan sound = let some : 1 ≤ tasks (plan-view blank) = sound .some-task in omega (arith, view-tasks blank)
 
 -- ---- a reading that is acceptance
 

@@ -10,7 +10,7 @@ use borrow.Author.Tests.{leb-true, eqb-true, le-leb, eq-eqb, ne-eqb, eqb-false}
 use lib.Dec.{leb, eqb}
 use lib.ListN.{length, drop}
 use Rattle.model.specs.Tests.{below, is-empty, member}
-use Rattle.model.specs.Questions.{Answer, accepted, first-no}
+use Rattle.model.specs.Questions.{Answer, accepted, refused, first-no}
 use Rattle.model.specs.Plan.{Plan, tasks, successors-of, predecessors, task-count, count-field, first-field, second-field, successor-fields, plan-of, task-questions, header-questions, graph-questions, all-preceded, one-exit, plan-questions, plan-answer}
 use Rattle.model.specs.Statements.{SoundPlan}
 use Rattle.plan.specs.Rules.{WellFormed, PlanRules, WithinBounds, Leads, nowhere, onward}
@@ -33,7 +33,7 @@ answer-parts bytes =
   where
     regroup : (a b c : Answer) → and-then (and-then a b) c ≡ and-then a (and-then b c)
     regroup accepted b c = refl
-    regroup (Rattle.model.specs.Questions.refused n) b c = refl
+    regroup (refused n) b c = refl
 
 -- ---- the graph: questions 9 and 10
 

@@ -12,7 +12,8 @@ use Rattle.model.specs.Questions.{first-no}
 use Rattle.model.specs.Plan.{tasks, successors-of, predecessors, responsiveness-field, utilization-field, quantum-length-field, task-count, count-field, first-field, second-field, used-fields, successor-fields, plan-of, task-questions, all-preceded, one-exit}
 use Rattle.plan.specs.declared.PlanRecord.{PlanRecord}
 use Rattle.plan.specs.View.{shown, successors-at, successors-view, plan-view, Ends}
-use Rattle.plan.specs.Contracts.{saturated, counted, Held, one-or-two, followed, Holds}
+use Rattle.plan.specs.Contracts.{saturated, counted, Held, one-or-two, followed}
+use Rattle.plan.specs.Promise.{Holds}
 use Rattle.plan.proofs.Lists.{below-mem, map-cong, every-cong, every-below, keep-cong, keep-none, not-member}
 use Rattle.plan.proofs.Asked.{accepted-at}
 use Rattle.plan.proofs.Facts.{tasks-of, successors-given, FieldFacts, TargetFacts, TaskFacts, task-facts}

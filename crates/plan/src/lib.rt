@@ -1,12 +1,12 @@
 // A plan's bytes become the plan, or the number of the first question whose answer is no. Nothing is asked of the bytes.
 ghost use mathlib.Core.Path.{_≡_};
-ghost use mathlib.Core.Bool.{not};
-ghost use Prim.Native.Nat.{_+_, _*_, _-_, _≤_, _<_};
+ghost use Prim.Native.Nat.{_-_, _≤_, _<_};
 ghost use lib.ListN.{drop};
 ghost use Rattle.model.specs.Tests.{below, every};
-ghost use Rattle.model.specs.Questions.{accepted, first-no, answer-number};
+ghost use Rattle.model.specs.Questions.{first-no, answer-number};
 ghost use Rattle.plan.specs.Answers.{answer-of, passes};
-ghost use Rattle.plan.specs.Contracts.{HeaderOf, five-bytes, TaskOf, three-bytes, field-questions, pair-questions, noted, Due, TaskRead, TasksRead, one-or-two, followed, HeaderRead, blank, RightReading};
+ghost use Rattle.plan.specs.Contracts.{HeaderOf, five-bytes, TaskOf, three-bytes, field-questions, pair-questions, noted, Due, TaskRead, TasksRead, one-or-two, followed, HeaderRead};
+ghost use Rattle.plan.specs.Promise.{blank, RightReading};
 
 // One case for each number of the paper, which answer-of gives.
 pub enum PlanAnswer {
@@ -87,6 +87,7 @@ pub fn passed(answer: PlanAnswer) -> bool
     }
 }
 
+// The header's five bytes taken apart.
 fn header_of(a: u8, b: u8, c: u8, d: u8, e: u8) -> Header
     ensures { λ r. ⌜ HeaderOf (five-bytes a b c d e) r ⌝ }
 {
@@ -125,6 +126,7 @@ fn header_answer(h: Header, size: usize) -> PlanAnswer
     PlanAnswer::Accepted
 }
 
+// A task's three bytes taken apart.
 fn task_of(a: u8, b: u8, c: u8) -> TaskFields
     ensures { λ r. ⌜ TaskOf (three-bytes a b c) r ⌝ }
 {
