@@ -1,23 +1,24 @@
 -- The reading that each way out gives, and the answer that it has: the header's, the tasks', 9, 10 or acceptance.
-use mathlib.Core.Path.{_≡_, refl, sym, _∙_, ap}
-use mathlib.Core.Bool.{Bool, true, false, not}
+use mathlib.Core.Path.{_≡_, sym, _∙_, ap}
+use mathlib.Core.Bool.{true, false}
 use mathlib.Core.List.{List, [], _∷_, flatMap}
 use Prim.Native.Nat.{ℕ, _+_, _*_, _-_, _≤_, _<_}
 use native.Mathlib.Omega.{arith}
 use borrow.Author.Tests.{le-leb, lt-leb}
 use lib.ListN.{length, getD, drop, replicate}
 use Rattle.model.specs.Tests.{below, every}
-use Rattle.model.specs.Questions.{Answer, accepted, refused, ask, first-no}
-use Rattle.model.specs.Plan.{header, form-field, responsiveness-field, utilization-field, quantum-length-field, task-count, task-questions, header-questions, graph-questions, all-preceded, one-exit, plan-of, plan-answer}
+use Rattle.model.specs.Questions.{accepted, ask, first-no}
+use Rattle.model.specs.Plan.{header, task-count, task-questions, header-questions, graph-questions, all-preceded, one-exit, plan-of, plan-answer}
 use Rattle.plan.specs.declared.PlanAnswer.{PlanAnswer}
 use Rattle.plan.specs.declared.PlanAnswer.the-variants.{Accepted, Short, BadPredecessors, LooseEnd}
 use Rattle.plan.specs.declared.Header.{Header}
 use Rattle.plan.specs.declared.Reading.{Reading}
 use Rattle.plan.specs.Answers.{answer-of, passes}
-use Rattle.plan.specs.Contracts.{five-bytes, field-questions, HeaderOf, HeaderRead, Held, Due, TasksRead, one-or-two, followed, blank, Holds, RightReading}
-use Rattle.plan.proofs.Asked.{and-then, passes-is, passes-not, stops, two-accepted, first-refused, second-refused}
-use Rattle.plan.proofs.Facts.{HeaderFacts, header-facts}
-use Rattle.plan.proofs.Sound.{answer-parts, GraphFacts, graph-facts}
+use Rattle.plan.specs.Contracts.{five-bytes, field-questions, HeaderOf, HeaderRead, Held, Due, TasksRead, one-or-two, followed}
+use Rattle.plan.specs.Promise.{blank, Holds, RightReading}
+use Rattle.plan.proofs.Asked.{passes-is, passes-not, stops, two-accepted, first-refused, second-refused}
+use Rattle.plan.proofs.Facts.{header-facts}
+use Rattle.plan.proofs.Sound.{answer-parts, graph-facts}
 use Rattle.plan.proofs.Steps.{header-bytes}
 use Rattle.plan.proofs.Whole.{question-9, question-10, nothing-held, record-holds}
 

@@ -1,20 +1,20 @@
 -- The arrays while the tasks are read: what storing one task's fields and noting its successors does.
 use mathlib.Core.Path.{_≡_, refl, sym, _∙_, ap}
-use mathlib.Core.Bool.{Bool, true, false, cond, not, _&&_, and-false}
-use mathlib.Core.Logic.{_⊎_, inl, inr, ⊎-elim}
-use mathlib.Core.List.{List, [], _∷_, List·Memᴰ, List·Memᴰ·head, List·Memᴰ·tail}
-use Prim.Native.Nat.{ℕ, zero, suc, _+_, _*_, _≤_, _<_}
-use native.Mathlib.Nat.{add-zero, zero-add}
+use mathlib.Core.Bool.{Bool, true, false, cond, and-false}
+use mathlib.Core.Logic.{_⊎_, ⊎-elim}
+use mathlib.Core.List.{List, List·Memᴰ·head, List·Memᴰ·tail}
+use Prim.Native.Nat.{ℕ, zero, suc, _+_, _≤_, _<_}
+use native.Mathlib.Nat.{add-zero}
 use native.Mathlib.Omega.{arith}
-use borrow.Author.Tests.{lt-ltb, le-ltb, le-leb, lt-leb, ltb-true, ltb-false, eq-eqb, ne-eqb, eqb-true, eqb-false}
+use borrow.Author.Tests.{le-ltb, le-leb, lt-leb, ne-eqb, eqb-true, eqb-false}
 use lib.Dec.{leb, ltb, eqb}
 use lib.ListN.{length, getD, set, length-set}
 use lib.Seq.{getD-set-same, getD-set-other}
-use Rattle.model.specs.Tests.{member, keep, below}
-use Rattle.model.specs.Plan.{used-fields, successor-fields}
+use Rattle.model.specs.Tests.{member}
+use Rattle.model.specs.Plan.{used-fields}
 use Rattle.plan.specs.View.{Ends}
-use Rattle.plan.specs.Contracts.{saturated, noted, counted, one-or-two, followed}
-use Rattle.plan.proofs.Lists.{outcome, last-or-below, keep-below}
+use Rattle.plan.specs.Contracts.{saturated, noted, one-or-two, followed}
+use Rattle.plan.proofs.Lists.{last-or-below}
 use Rattle.plan.proofs.Facts.{FieldFacts, TargetFacts}
 
 -- ---- a field stored at t

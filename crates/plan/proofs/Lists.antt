@@ -6,11 +6,11 @@ use mathlib.Core.List.{List, [], _∷_, _++_, map, flatMap, append-assoc, List·
 use Prim.Native.Nat.{ℕ, zero, suc, _+_, _≤_, _<_}
 use native.Mathlib.Omega.{arith}
 use native.Mathlib.Numerals.{add-one}
-use borrow.Author.Tests.{eqb-true, eqb-false, eq-eqb, ne-eqb}
+use borrow.Author.Tests.{eqb-true, eqb-false, ne-eqb}
 use lib.Dec.{eqb}
-use lib.ListN.{length, getD, drop, length-append, length-map, List·getD-append, length-drop, drop-of-length-le}
-use lib.Seq.{getD-append-seam, drop-append-le, getD-at}
-use Rattle.model.specs.Tests.{below, every, keep, is-empty, member}
+use lib.ListN.{length, getD, drop, length-append, length-map, List·getD-append}
+use lib.Seq.{drop-append-le, getD-at}
+use Rattle.model.specs.Tests.{below, every, keep, member}
 
 -- ---- tests
 

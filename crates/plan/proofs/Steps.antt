@@ -1,17 +1,16 @@
 -- Reading the tasks one after the other: from the bytes of a task to its fields, and from the tasks below t to those below t + 1.
 use mathlib.Core.Path.{_≡_, refl, sym, _∙_, ap}
-use mathlib.Core.Bool.{Bool, true, false, cond}
-use mathlib.Core.List.{List, [], _∷_, flatMap, List·Memᴰ, List·Memᴰ·head, List·Memᴰ·tail}
+use mathlib.Core.Bool.{true, false}
+use mathlib.Core.List.{List, flatMap, List·Memᴰ·head, List·Memᴰ·tail}
 use Prim.Native.Nat.{ℕ, zero, suc, _+_, _*_, _≤_, _<_}
-use native.Mathlib.Nat.{add-zero, zero-add}
+use native.Mathlib.Nat.{add-zero}
 use native.Mathlib.Numerals.{add-one}
 use native.Mathlib.Omega.{arith}
-use lib.ListN.{length, getD, set, replicate, length-replicate, getD-replicate, List·getD-eq-default}
-use Rattle.model.specs.Tests.{below, keep, member}
+use lib.ListN.{getD, set}
+use Rattle.model.specs.Tests.{below, member}
 use Rattle.model.specs.Questions.{Question, Answer, accepted, refused, first-no}
-use Rattle.model.specs.Plan.{number, header, task-bits, task-count, count-field, first-field, second-field, used-fields, successor-fields, task-questions, header-questions}
-use Rattle.plan.specs.View.{Ends}
-use Rattle.plan.specs.Contracts.{five-bytes, three-bytes, pair-questions, field-questions, saturated, noted, counted, Held, TaskOf, TaskRead, TasksRead}
+use Rattle.model.specs.Plan.{number, header, task-bits, task-count, count-field, first-field, second-field, used-fields, successor-fields, task-questions}
+use Rattle.plan.specs.Contracts.{five-bytes, three-bytes, pair-questions, saturated, noted, counted, Held, TaskOf, TaskRead, TasksRead}
 use Rattle.plan.specs.declared.TaskFields.{TaskFields}
 use Rattle.plan.specs.declared.PlanAnswer.{PlanAnswer}
 use Rattle.plan.specs.declared.PlanAnswer.the-variants.{Accepted}

@@ -1,21 +1,20 @@
 -- From all tasks read to the whole plan: questions 9 and 10 are asked of the arrays, and the arrays show the plan of the bytes.
 use mathlib.Core.Path.{_≡_, refl, sym, _∙_, ap}
 use mathlib.Core.Bool.{Bool, true, false, cond, not, _&&_, and-true, Bool·beq}
-use mathlib.Core.List.{List, [], _∷_, map, flatMap, List·Memᴰ, List·Memᴰ·head, List·Memᴰ·tail}
-use Prim.Native.Nat.{ℕ, zero, suc, _+_, _*_, _-_, _≤_, _<_}
-use native.Mathlib.Nat.{add-zero, zero-add}
-use native.Mathlib.Numerals.{add-one}
+use mathlib.Core.List.{List, [], _∷_, map, flatMap, List·Memᴰ·head, List·Memᴰ·tail}
+use Prim.Native.Nat.{ℕ, zero, suc, _+_, _-_, _≤_, _<_}
 use native.Mathlib.Omega.{arith}
 use borrow.Author.Tests.{le-leb, lt-leb, lt-ltb, le-ltb, eq-eqb, ne-eqb}
-use lib.Dec.{leb, ltb, eqb}
+use lib.Dec.{leb, eqb}
 use lib.ListN.{length, getD, drop, replicate, length-replicate}
 use Rattle.model.specs.Tests.{below, every, keep, is-empty, member}
-use Rattle.model.specs.Questions.{Answer, accepted, refused, first-no}
-use Rattle.model.specs.Plan.{Plan, tasks, successors-of, predecessors, responsiveness-field, utilization-field, quantum-length-field, task-count, count-field, first-field, second-field, used-fields, successor-fields, plan-of, task-questions, all-preceded, one-exit}
+use Rattle.model.specs.Questions.{first-no}
+use Rattle.model.specs.Plan.{tasks, successors-of, predecessors, responsiveness-field, utilization-field, quantum-length-field, task-count, count-field, first-field, second-field, used-fields, successor-fields, plan-of, task-questions, all-preceded, one-exit}
 use Rattle.plan.specs.declared.PlanRecord.{PlanRecord}
 use Rattle.plan.specs.View.{shown, successors-at, successors-view, plan-view, Ends}
-use Rattle.plan.specs.Contracts.{saturated, counted, Held, one-or-two, followed, Holds}
-use Rattle.plan.proofs.Lists.{below-mem, mem-below, from-one-mem, map-cong, every-cong, every-below, keep-cong, keep-none, not-member}
+use Rattle.plan.specs.Contracts.{saturated, counted, Held, one-or-two, followed}
+use Rattle.plan.specs.Promise.{Holds}
+use Rattle.plan.proofs.Lists.{below-mem, map-cong, every-cong, every-below, keep-cong, keep-none, not-member}
 use Rattle.plan.proofs.Asked.{accepted-at}
 use Rattle.plan.proofs.Facts.{tasks-of, successors-given, FieldFacts, TargetFacts, TaskFacts, task-facts}
 use Rattle.plan.proofs.Sound.{GraphFacts}

@@ -1,15 +1,12 @@
 // A plan's bytes become the plan, or the number of the first question whose answer is no. Nothing is asked of the bytes.
 ghost use mathlib.Core.Path.{_≡_};
-ghost use mathlib.Core.Bool.{not, _&&_};
-ghost use mathlib.Core.List.{flatMap};
-ghost use Prim.Native.Nat.{_+_, _*_, _-_, _≤_, _<_};
-ghost use lib.Dec.{leb, eqb};
-ghost use lib.ListN.{length, getD, drop};
+ghost use Prim.Native.Nat.{_-_, _≤_, _<_};
+ghost use lib.ListN.{drop};
 ghost use Rattle.model.specs.Tests.{below, every};
-ghost use Rattle.model.specs.Questions.{accepted, first-no};
-ghost use Rattle.model.specs.Plan.{task-count, task-questions};
+ghost use Rattle.model.specs.Questions.{first-no, answer-number};
 ghost use Rattle.plan.specs.Answers.{answer-of, passes};
-ghost use Rattle.plan.specs.Contracts.{HeaderOf, five-bytes, TaskOf, three-bytes, field-questions, pair-questions, noted, Due, TaskRead, TasksRead, one-or-two, followed, HeaderRead, blank, RightReading};
+ghost use Rattle.plan.specs.Contracts.{HeaderOf, five-bytes, TaskOf, three-bytes, field-questions, pair-questions, noted, Due, TaskRead, TasksRead, one-or-two, followed, HeaderRead};
+ghost use Rattle.plan.specs.Promise.{blank, RightReading};
 
 // One case for each number of the paper, which answer-of gives.
 pub enum PlanAnswer {
@@ -60,6 +57,25 @@ struct TaskFields {
     second: usize,
 }
 
+// The paper's number of a refusal, and 0 for acceptance.
+pub fn number(answer: PlanAnswer) -> u8
+    ensures { λ r. ⌜ r ≡ answer-number (answer-of answer) ⌝ }
+{
+    match answer {
+        PlanAnswer::Accepted => 0,
+        PlanAnswer::Short => 1,
+        PlanAnswer::UnknownForm => 2,
+        PlanAnswer::LowResponsiveness => 3,
+        PlanAnswer::BadUtilization => 4,
+        PlanAnswer::NoQuantum => 5,
+        PlanAnswer::WrongLength => 6,
+        PlanAnswer::BadFields => 7,
+        PlanAnswer::BadSuccessors => 8,
+        PlanAnswer::BadPredecessors => 9,
+        PlanAnswer::LooseEnd => 10,
+    }
+}
+
 // Is the answer acceptance?
 pub fn passed(answer: PlanAnswer) -> bool
     ensures { λ r. ⌜ r ≡ passes (answer-of answer) ⌝ }
@@ -71,6 +87,7 @@ pub fn passed(answer: PlanAnswer) -> bool
     }
 }
 
+// The header's five bytes taken apart.
 fn header_of(a: u8, b: u8, c: u8, d: u8, e: u8) -> Header
     ensures { λ r. ⌜ HeaderOf (five-bytes a b c d e) r ⌝ }
 {
@@ -109,6 +126,7 @@ fn header_answer(h: Header, size: usize) -> PlanAnswer
     PlanAnswer::Accepted
 }
 
+// A task's three bytes taken apart.
 fn task_of(a: u8, b: u8, c: u8) -> TaskFields
     ensures { λ r. ⌜ TaskOf (three-bytes a b c) r ⌝ }
 {

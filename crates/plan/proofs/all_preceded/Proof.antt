@@ -2,7 +2,6 @@
 use mathlib.Core.Bool.{true}
 use Prim.Native.Nat.{ℕ, _≤_, _<_, _-_}
 use native.Mathlib.Omega.{arith}
-use borrow.Author.Needs.{needs}
 use mathlib.Core.Path.{_≡_, sym}
 use borrow.Author.Count.{below-more}
 use Rattle.plan.proofs.Lists.{mem-from-one, from-one-mem, every-holds, every-fails}
@@ -24,13 +23,13 @@ element-copy-out-if1 : tie.Need-element-copy-out-if1 Inv-loop μ-loop
 element-copy-out-if1 c = omega arith
 
 returns : tie.Need-returns Inv-loop μ-loop
-returns c = sym (every-fails _ _ _ (mem-from-one _ _ (omega arith) (omega arith)) (too-few _ _ (c .if1 .taken)))
+returns c = sym (every-fails _ _ (c .before .before .before .loop .t) (mem-from-one _ _ (omega arith) (omega arith)) (too-few _ _ (omega arith)))
 
 element-copy-out-if2 : tie.Need-element-copy-out-if2 Inv-loop μ-loop
 element-copy-out-if2 c = omega arith
 
 returns-2 : tie.Need-returns-2 Inv-loop μ-loop
-returns-2 c = sym (every-fails _ _ _ (mem-from-one _ _ (omega arith) (omega arith)) (too-many _ _ (c .if2 .taken)))
+returns-2 c = sym (every-fails _ _ (c .before .before .before .before .before .loop .t) (mem-from-one _ _ (omega arith) (omega arith)) (too-many _ _ (omega arith)))
 
 add-t : tie.Need-add-t Inv-loop μ-loop
 add-t c = omega arith
@@ -40,7 +39,7 @@ loop-less c = omega arith
 
 loop-again : tie.Need-loop-again Inv-loop μ-loop
 loop-again c =
-    (omega arith, below-more _ _ (c .before .before .before .before .before .loop .inv .1) (λ _. enough _ _ (c .before .before .if1 .left) (c .if2 .left)))
+    (omega arith, below-more _ _ (c .before .before .before .before .before .loop .inv .1) (λ _. enough _ _ (omega arith) (omega arith)))
 
 returns-3 : tie.Need-returns-3 Inv-loop μ-loop
 returns-3 c =

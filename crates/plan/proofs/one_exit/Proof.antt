@@ -2,7 +2,6 @@
 use mathlib.Core.Bool.{true}
 use Prim.Native.Nat.{ℕ, _≤_, _<_, _-_}
 use native.Mathlib.Omega.{arith}
-use borrow.Author.Needs.{needs}
 use mathlib.Core.Path.{_≡_, sym}
 use borrow.Author.Count.{below-more}
 use Rattle.plan.proofs.Lists.{mem-below, below-mem, every-holds, every-fails}

@@ -1,8 +1,10 @@
 -- `plan::read_task` meets its contract: the laws of Steps, at the fields that were read.
 use borrow.Author.Needs.{needs}
 use mathlib.Core.Path.{_≡_, sym, _∙_}
-use mathlib.Core.Bool.{true, false}
 use Prim.Native.Nat.{_<_}
+use native.Mathlib.Omega.{arith}
+use mathlib.Core.Bool.{true}
+use Rattle.plan.specs.Answers.{answer-of, passes}
 use Rattle.plan.proofs.Steps.{read-refused, read-passed, first-small, second-small}
 use Rattle.plan.proofs.read_task.Statement.{statement}
 use Rattle.plan.proofs.read_task.Tie as tie
@@ -10,6 +12,17 @@ use Rattle.plan.proofs.read_task.Tie as tie
 -- the function's entry, from where the answer was tested
 abbrev start : tie.After-passed → tie.Start
 start p = p .before .before .before .before .before .before .before
+
+-- the fields of an accepted task are places of the arrays
+small : (p : tie.After-passed) → passes (answer-of (p .before .task-answer .result)) ≡ true →
+    (p .before .before .task-of .result .first < 1024) × (p .before .before .task-of .result .second < 1024)
+small p passed =
+    let s = start p in
+    let fields = p .before .before .task-of .ensures in
+    let answered = p .before .task-answer .ensures in (
+      first-small _ _ _ _ (s .pre .1 .number) fields (p .before .task-answer .result) answered passed,
+      second-small _ _ _ _ (s .pre .1 .number) fields (p .before .task-answer .result) answered passed,
+    )
 
 mul-at : tie.Need-mul-at
 mul-at c = search needs
@@ -62,14 +75,12 @@ element-write-second c = search needs
 note-requires : tie.Need-note-requires
 note-requires c κs =
     let p = c .before .before .before .before in
-    first-small (start p .args .bytes .now) (start p .args .n) (start p .args .t) (p .before .before .task-of .result) (start p .pre .1 .number) (p .before .before .task-of .ensures) (p .before .task-answer .result) (p .before .task-answer .ensures)
-    (sym (p .passed .ensures) ∙ c .before .before .before .if1 .taken)
+    omega (arith, small p (sym (p .passed .ensures) ∙ c .before .before .before .if1 .taken))
 
 note-requires-2 : tie.Need-note-requires-2
 note-requires-2 c κs =
     let p = c .before .before .before .before .before .before in
-    second-small (start p .args .bytes .now) (start p .args .n) (start p .args .t) (p .before .before .task-of .result) (start p .pre .1 .number) (p .before .before .task-of .ensures) (p .before .task-answer .result) (p .before .task-answer .ensures)
-    (sym (p .passed .ensures) ∙ c .before .before .before .before .before .if1 .taken)
+    omega (arith, small p (sym (p .passed .ensures) ∙ c .before .before .before .before .before .if1 .taken))
 
 returns : tie.Need-returns
 returns c =

@@ -1,6 +1,6 @@
 -- `plan::refusal` meets its contract: what it makes is the blank.
 use mathlib.Core.Path.{refl}
-use Rattle.plan.specs.Contracts.{blank}
+use Rattle.plan.specs.Promise.{blank}
 use Rattle.plan.proofs.refusal.Statement.{statement}
 use Rattle.plan.proofs.refusal.Tie as tie
 
