@@ -40,29 +40,36 @@ fn labels() {
     show_label(sheet, 1);
     show_label(sheet, 2);
     show_label(sheet, 3);
+}
+
+fn labels_past_the_fourth() {
+    let sheet = b"idle\n\nheld back\ndone\nfifth\ncut";
     show_label(sheet, 4);
     show_label(sheet, 5);
     show_label(sheet, 255);
+}
+
+fn small_sheets() {
     show_label(b"", 0);
     show_label(b"\n", 0);
     show_label(b"\n", 1);
     show_label(b"cut", 0);
+}
+
+fn largest_status() {
     let lines = [10u8; 256];
     show_label(&lines, 255);
     show_label(&lines[..255], 255);
 }
 
-// The first 130 bytes of a buffer after a line was written to its first `size` ones, between bars.
-fn show_line(counters: Counters, size: usize) {
-    let mut buffer = [46u8; 130];
-    if size <= 130 {
-        match counters::write_line(counters, &mut buffer[..size]) {
-            LineAnswer::Written(length) => number(length as u64),
-            LineAnswer::TooSmall => word(b"20"),
-        }
+// The answer's length or number, and the buffer after the call, between bars.
+fn show_line(counters: Counters, buffer: &mut [u8]) {
+    match counters::write_line(counters, buffer) {
+        LineAnswer::Written(length) => number(length as u64),
+        LineAnswer::TooSmall => word(b"20"),
     }
     word(b" |");
-    word(&buffer);
+    word(buffer);
     word(b"|\n");
 }
 
@@ -97,15 +104,23 @@ fn example(status: u8) -> Counters {
     }
 }
 
-fn lines() {
-    show_line(example(0), 0);
-    show_line(example(0), 127);
-    show_line(example(0), 128);
-    show_line(example(1), 129);
-    show_line(example(2), 130);
-    show_line(example(255), 128);
-    show_line(largest(), 127);
-    show_line(largest(), 128);
+fn small_buffers() {
+    let mut few = [46u8; 1];
+    show_line(example(0), &mut few);
+    let mut short = [46u8; 127];
+    show_line(example(0), &mut short);
+    show_line(largest(), &mut short);
+}
+
+fn buffers() {
+    let mut exact = [46u8; 128];
+    show_line(example(0), &mut exact);
+    let mut longer = [46u8; 129];
+    show_line(example(1), &mut longer);
+    show_line(example(255), &mut longer);
+    let mut other = [46u8; 128];
+    show_line(largest(), &mut other);
+    show_line(example(2), &mut other);
 }
 
 // A number put at a place of ten bytes: the next place, and the bytes.
@@ -123,6 +138,9 @@ fn numbers() {
     show_number(9, 9);
     show_number(9, 10);
     show_number(8, 10);
+}
+
+fn numbers_at_the_end() {
     show_number(10, 0);
     show_number(11, 0);
     show_number(18446744073709551615, 7);
@@ -132,6 +150,11 @@ fn numbers() {
 
 fn main() {
     labels();
-    lines();
+    labels_past_the_fourth();
+    small_sheets();
+    largest_status();
+    small_buffers();
+    buffers();
     numbers();
+    numbers_at_the_end();
 }
