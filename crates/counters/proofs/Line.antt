@@ -65,18 +65,27 @@ line-within k w =
     ten-within _ _ _ _ _ _ _ _ _ _ (status-small (k .status)) (w .worked) (w .tasks) (w .desire) (w .allotment) (w .work) (w .mug) (w .steal)
     (w .successes) (w .refusals)
 
--- the ten numbers, where the narrow ones were widened
-pub ten-numbers : (k : Counters) (status worked tasks desire allotment : ℕ) → status ≡ status-number (k .status) → worked ≡ k .worked
-    → tasks ≡ k .tasks → desire ≡ k .desire → allotment ≡ k .allotment
-    → (status ∷ worked ∷ tasks ∷ desire ∷ allotment ∷ k .work ∷ k .mug ∷ k .steal ∷ k .successes ∷ k .refusals ∷ []) ≡ numbers-of k
-ten-numbers k status worked tasks desire allotment e0 e1 e2 e3 e4 = rw (e0, e1, e2, e3, e4)
+-- the ten numbers, with the status by its number
+abbrev pub ten : Counters → ℕ → List ℕ
+ten k status =
+    status
+    ∷ k .worked
+    ∷ k .tasks
+    ∷ k .desire
+    ∷ k .allotment
+    ∷ k .work
+    ∷ k .mug
+    ∷ k .steal
+    ∷ k .successes
+    ∷ k .refusals
+    ∷ []
 
 -- the line has room, and once it is written the promises hold
-module _ (k : Counters) (numbers buffer : List ℕ) (same : numbers ≡ numbers-of k) (enough : 128 ≤ length buffer) where
-  pub line-room : Wide k → length (spaced numbers) ≤ length buffer
+module _ (k : Counters) (buffer : List ℕ) (status : ℕ) (same : status ≡ status-number (k .status)) (enough : 128 ≤ length buffer) where
+  pub line-room : Wide k → length (spaced (ten k status)) ≤ length buffer
   line-room w = rw same (omega (arith, line-within k w))
 
-  pub line-written : (size : ℕ) (exit : List ℕ) → size ≡ length (spaced numbers) → exit ≡ put-at-start (spaced numbers) buffer
+  pub line-written : (size : ℕ) (exit : List ℕ) → size ≡ length (spaced (ten k status)) → exit ≡ put-at-start (spaced (ten k status)) buffer
       → Promised buffer (length (spaced (numbers-of k))) (put-at-start (spaced (numbers-of k)) buffer) accepted size exit
   line-written size exit e f = rw (e, f, same) (big-enough buffer _ _ enough)
 

@@ -143,18 +143,6 @@ fn put_numbers(numbers: &[u64], buffer: &mut [u8]) -> usize
     put_field(buffer, at, numbers[last], 10)
 }
 
-fn wide8(x: u8) -> u64
-    ensures { λ r. ⌜ r ≡ x ⌝ }
-{
-    x as u64
-}
-
-fn wide16(x: u16) -> u64
-    ensures { λ r. ⌜ r ≡ x ⌝ }
-{
-    x as u64
-}
-
 // Writes the counters line at the start of a buffer of 128 bytes or more. Bytes after the line stay; a smaller buffer stays as it is.
 pub fn write_line(counters: Counters, buffer: &mut [u8]) -> LineAnswer
     ensures answer { λ r. ⌜ line-answer r ≡ counters-answer (now (buffer .entry)) ⌝ }
@@ -167,10 +155,10 @@ pub fn write_line(counters: Counters, buffer: &mut [u8]) -> LineAnswer
     let status = counters.status;
     let numbers = [
         number_of(status),
-        wide16(counters.worked),
-        wide16(counters.tasks),
-        wide8(counters.desire),
-        wide8(counters.allotment),
+        counters.worked as u64,
+        counters.tasks as u64,
+        counters.desire as u64,
+        counters.allotment as u64,
         counters.work,
         counters.mug,
         counters.steal,

@@ -1,43 +1,12 @@
 -- `counters::write_line` meets its contract: the widths of the ten numbers' types keep the line to 127 bytes. Assumes nothing.
-use mathlib.Core.Path.{_≡_}
-use mathlib.Core.List.{_∷_, []}
-use Prim.Native.Nat.{_≤_}
 use native.Mathlib.Omega.{arith}
 use borrow.Author.Needs.{needs}
-use lib.ListN.{length}
-use Rattle.counters.specs.Line.{numbers-of}
-use Rattle.counters.proofs.Line.{Wide, ten-numbers, line-room, line-written, too-small}
+use Rattle.counters.proofs.Line.{Wide, line-room, line-written, too-small}
 use Rattle.counters.proofs.write_line.Statement.{statement}
 use Rattle.counters.proofs.write_line.Tie as tie
 
--- what is known at the entry
-abbrev start : tie.After-wide82 → tie.Start
-start k = k .before .before .before .before .before .before .before
-
 wide : (s : tie.Start) → Wide (s .args .counters)
 wide s = omega (arith, s .good .0)
-
--- the array that was made is the list of the ten numbers
-told : (k : tie.After-wide82) → (k .before .before .before .before .number-of .result
-    ∷ k .before .before .before .wide16 .result
-    ∷ k .before .before .wide162 .result
-    ∷ k .before .wide8 .result
-    ∷ k .wide82 .result
-    ∷ start k .args .counters .work
-    ∷ start k .args .counters .mug
-    ∷ start k .args .counters .steal
-    ∷ start k .args .counters .successes
-    ∷ start k .args .counters .refusals
-    ∷ []) ≡ numbers-of (start k .args .counters)
-told k =
-    ten-numbers (start k .args .counters) _ _ _ _ _ (k .before .before .before .before .number-of .ensures)
-    (k .before .before .before .wide16 .ensures)
-    (k .before .before .wide162 .ensures)
-    (k .before .wide8 .ensures)
-    (k .wide82 .ensures)
-
-enough : (k : tie.After-wide82) → 128 ≤ length (start k .args .buffer .now)
-enough k = k .before .before .before .before .before .if1 .left
 
 returns : tie.Need-returns
 returns c = too-small _ _ _ (c .if1 .taken)
@@ -45,34 +14,36 @@ returns c = too-small _ _ _ (c .if1 .taken)
 number-of-requires : tie.Need-number-of-requires
 number-of-requires c κs = search needs
 
-wide16-requires : tie.Need-wide16-requires
-wide16-requires c κs = search needs
+cast-t8 : tie.Need-cast-t8
+cast-t8 c = search needs
 
-wide16-requires-2 : tie.Need-wide16-requires-2
-wide16-requires-2 c κs = search needs
+cast-t9 : tie.Need-cast-t9
+cast-t9 c = search needs
 
-wide8-requires : tie.Need-wide8-requires
-wide8-requires c κs = search needs
+cast-t10 : tie.Need-cast-t10
+cast-t10 c = search needs
 
-wide8-requires-2 : tie.Need-wide8-requires-2
-wide8-requires-2 c κs = search needs
+cast-t11 : tie.Need-cast-t11
+cast-t11 c = search needs
 
 slice-aggregate-put-numbers : tie.Need-slice-aggregate-put-numbers
 slice-aggregate-put-numbers c = search needs
 
 put-numbers-requires : tie.Need-put-numbers-requires
 put-numbers-requires c κs =
-    let k = c .before .before in
-    (omega arith, line-room (start k .args .counters) _ (start k .args .buffer .now) (told k) (enough k) (wide (start k)))
+    let k = c .before .before .before .before .before .before in
+    let s = k .before .before .before in
+    (omega arith, line-room (s .args .counters) (s .args .buffer .now) _ (k .number-of .ensures) (k .before .if1 .left) (wide s))
 
 same-length : tie.Need-same-length
 same-length c = search needs
 
 returns-2 : tie.Need-returns-2
 returns-2 c =
-    let k = c .before .before .before .before .before in
     let called = c .before .before .put-numbers in
-    line-written (start k .args .counters) _ (start k .args .buffer .now) (told k) (enough k) _ _ (called .ensures .0) (called .ensures .1)
+    let k = c .before .before .before .before .before .before .before .before .before in
+    let s = k .before .before .before in
+    line-written (s .args .counters) (s .args .buffer .now) _ (k .number-of .ensures) (k .before .if1 .left) _ _ (called .ensures .0) (called .ensures .1)
 
 pub write-line-spec : {M : Type 1} → statement M
 write-line-spec =
@@ -80,10 +51,10 @@ write-line-spec =
     (tie.spec
     returns
     number-of-requires
-    wide16-requires
-    wide16-requires-2
-    wide8-requires
-    wide8-requires-2
+    cast-t8
+    cast-t9
+    cast-t10
+    cast-t11
     slice-aggregate-put-numbers
     put-numbers-requires
     same-length
