@@ -1,0 +1,2 @@
+-- Laws of the log. Entries: the entry at a place is the first of model's entries from there on.
+pub mod Entries
