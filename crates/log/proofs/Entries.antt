@@ -9,9 +9,10 @@ use native.Mathlib.Omega.{arith}
 use lib.Dec.{ltb, leb}
 use lib.ListN.{length, getD, take, drop, length-drop, drop-of-length-le}
 use lib.Seq.{drop-cons, drop-drop}
-use borrow.Author.Tests.{ltb-true, ltb-false, le-leb}
+use borrow.Author.Tests.{ltb-true, ltb-false, leb-true, le-leb}
 use Rattle.model.specs.Log.{Entries, entry-then, choices-announced, entry-whole, entry-call, entries-up-to, entries}
 use Rattle.model.specs.Machine.{grants, ticks}
+use Rattle.log.specs.declared.Entry.{Entry}
 use Rattle.log.specs.declared.Entry.the-variants.{Grant, Tick, Broken, End}
 use Rattle.log.specs.Reading.{begun-by, entry-of, entries-by}
 
@@ -78,3 +79,50 @@ at-place log at false e = rw (drop-of-length-le log (ltb-false at (length log) e
 pub entries-at : (log : List ℕ) (at : ℕ) → entries (drop at log) ≡ entries-by log at (entry-of log at)
 unfolding entry-of
 entries-at log at = at-place log at (ltb at (length log)) refl
+
+-- ---- where the next entry stands
+
+-- a call's entry is inside the log, and its choices come after its first byte
+abbrev pub Inside : List ℕ → ℕ → Entry → Type 0
+Inside log at (Grant g) = at < length log
+Inside log at (Tick start count) = (start ≡ at + 1) × (start + count ≤ length log)
+Inside log at Broken = Unit
+Inside log at End = Unit
+
+begun-inside : (log : List ℕ) (at byte : ℕ) (is-grant whole : Bool) → at < length log → leb (byte - 128) (length log - (at + 1)) ≡ whole →
+    Inside log at (cond is-grant (Grant byte) (cond whole (Tick (at + 1) (byte - 128)) Broken))
+begun-inside log at byte true whole h e = h
+begun-inside log at byte false true h e = (refl, omega (arith, leb-true (byte - 128) (length log - (at + 1)) e))
+begun-inside log at byte false false h e = tt
+
+place-inside : (log : List ℕ) (at : ℕ) (more : Bool) → ltb at (length log) ≡ more →
+    Inside log at (cond more (begun-by (getD log at 0) (at + 1) (length log - (at + 1))) End)
+place-inside log at true e = begun-inside log at (getD log at 0) (ltb (getD log at 0) 128) _ (ltb-true at (length log) e) refl
+place-inside log at false e = tt
+
+pub entry-inside : (log : List ℕ) (at : ℕ) → Inside log at (entry-of log at)
+unfolding entry-of
+entry-inside log at = place-inside log at (ltb at (length log)) refl
+
+-- ---- an entry that was read
+
+pub record ReadAt (log : List ℕ) (at : ℕ) (entry : Entry) : Type 0 where
+  pub is : entry-of log at ≡ entry
+
+module _ {log : List ℕ} {at : ℕ} where
+  pub grant-inside : {g : ℕ} → ReadAt log at (Grant g) → at < length log
+  grant-inside read = rw (read .is) at (entry-inside log at)
+
+  pub tick-inside : {start count : ℕ} → ReadAt log at (Tick start count) → (start ≡ at + 1) × (start + count ≤ length log)
+  tick-inside read = rw (read .is) at (entry-inside log at)
+
+  -- the entries from there on are those of its case
+  pub entries-read : {entry : Entry} → ReadAt log at entry → entries (drop at log) ≡ entries-by log at entry
+  entries-read read = entries-at log at ∙ ap (entries-by log at) (read .is)
+
+  -- the choices, as the part of the log from their start to their end
+  pub choices-read : {start count : ℕ} → ReadAt log at (Tick start count) →
+      entries (drop at log) ≡ entry-then (ticks (take (start + count - start) (drop start log))) (entries (drop (start + count) log))
+  choices-read {start} {count} read =
+      let same : start + count - start ≡ count = omega arith in
+      rw same (entries-read read)

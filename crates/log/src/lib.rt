@@ -1,6 +1,17 @@
 // The day log: lent bytes, read entry after entry, and run on a job in place. `specs/Reading.antt` says what is read.
 ghost use mathlib.Core.Path.{_≡_};
+ghost use Prim.Native.Nat.{ℕ, _+_, _^_, _<_};
+ghost use mathlib.Core.List.{List};
+ghost use Rattle.model.specs.Machine.{grants, ticks};
+ghost use Rattle.model.specs.Log.{refusals-in};
+ghost use Rattle.engine.specs.Answers.{answer-of};
+ghost use Rattle.engine.specs.Moves.{Moves};
 ghost use Rattle.log.specs.Reading.{entry-of};
+ghost use Rattle.log.specs.Running.{Job, counted-at, Runs, GrantMoves, TickMoves};
+use deque::Numbers;
+use engine::CallAnswer;
+use engine::Course;
+use engine::Moved;
 
 // What stands at a place of a log: a grant's count; a tick's choices, as where they start and how many they are; an entry that is not
 // whole; or nothing more.
@@ -28,4 +39,110 @@ pub fn entry_at(log: &[u8], at: usize) -> Entry
         return Entry::Tick(start, count);
     }
     Entry::Broken
+}
+
+// How far a log was run: the job's numbers, the refused calls so far, and where the next entry stands.
+pub struct Place {
+    pub numbers: Numbers,
+    pub course: Course,
+    pub refusals: u64,
+    pub at: usize,
+}
+
+// The log's own answer, whose number log-answer-of gives.
+pub enum LogAnswer {
+    Whole,
+    BrokenEntry,
+}
+
+// What a log left: the job's numbers, how many calls were refused, and the answer.
+pub struct Ran {
+    pub numbers: Numbers,
+    pub course: Course,
+    pub refusals: u64,
+    pub answer: LogAnswer,
+}
+
+// 1 for a refused call, 0 for an accepted one.
+fn refused(answer: CallAnswer) -> u64
+    ensures { λ r. ⌜ r ≡ refusals-in (answer-of answer) ⌝ }
+{
+    match answer {
+        CallAnswer::Accepted => 0,
+        CallAnswer::Finished => 1,
+        CallAnswer::QuantumOpen => 1,
+        CallAnswer::QuantaSpent => 1,
+        CallAnswer::AboveDesire => 1,
+        CallAnswer::NoQuantum => 1,
+        CallAnswer::WrongChoiceCount => 1,
+        CallAnswer::BadChoice => 1,
+    }
+}
+
+// The place after a call.
+fn counted(moved: Moved, refusals: u64, at: usize) -> Place
+    requires { ⌜ refusals + 1 < 2 ^ 64 ⌝ }
+    ensures { λ r. ⌜ r ≡ counted-at moved refusals at ⌝ }
+{
+    let answer = moved.answer;
+    let numbers = moved.numbers;
+    let course = moved.course;
+    let more = refused(answer);
+    Place {
+        numbers: numbers,
+        course: course,
+        refusals: refusals + more,
+        at: at,
+    }
+}
+
+// STUB
+fn stub_grant(ends: &mut [u16; 256], m: Numbers, c: Course, g: u8) -> Moved
+    ensures { λ r. ⌜ GrantMoves g (now (ends .entry)) m c (now (ends .exit)) r ⌝ }
+{
+    Moved { answer: CallAnswer::Finished, numbers: m, course: c }
+}
+
+// STUB
+fn stub_tick(first: &[u16; 1024], second: &[u16; 1024], pending: &mut [u8; 1024], next: &mut [u16; 1024], ends: &mut [u16; 256], m: Numbers, c: Course, choices: &[u8]) -> Moved
+    requires { ⌜ Job (now first) (now second) (now pending) (now next) (now ends) m c ⌝ }
+    ensures { λ r. ⌜ TickMoves (now (choices .entry)) (now (first .entry)) (now (second .entry)) (now (pending .entry)) (now (next .entry)) (now (ends .entry)) m c (now (pending .exit)) (now (next .exit)) (now (ends .exit)) r ⌝ }
+{
+    Moved { answer: CallAnswer::Finished, numbers: m, course: c }
+}
+
+// A log of any bytes, run on a job in place.
+pub fn run(first: &[u16; 1024], second: &[u16; 1024], pending: &mut [u8; 1024], next: &mut [u16; 1024], ends: &mut [u16; 256], m: Numbers, c: Course, log: &[u8]) -> Ran
+    requires { ⌜ Job (now first) (now second) (now pending) (now next) (now ends) m c ⌝ }
+    ensures { λ r. ⌜ Runs (now (log .entry)) (now (first .entry)) (now (second .entry)) (now (pending .entry)) (now (next .entry)) (now (ends .entry)) m c (now (pending .exit)) (now (next .exit)) (now (ends .exit)) r ⌝ }
+{
+    let mut place = Place {
+        numbers: m,
+        course: c,
+        refusals: 0,
+        at: 0,
+    };
+    loop {
+        let numbers = place.numbers;
+        let course = place.course;
+        let refusals = place.refusals;
+        let at = place.at;
+        match entry_at(log, at) {
+            Entry::Grant(g) => {
+                let moved = stub_grant(ends, numbers, course, g);
+                place = counted(moved, refusals, at + 1);
+            }
+            Entry::Tick(start, count) => {
+                let end = start + count;
+                let moved = stub_tick(first, second, pending, next, ends, numbers, course, &log[start..end]);
+                place = counted(moved, refusals, end);
+            }
+            Entry::Broken => {
+                return Ran { numbers: numbers, course: course, refusals: refusals, answer: LogAnswer::BrokenEntry };
+            }
+            Entry::End => {
+                return Ran { numbers: numbers, course: course, refusals: refusals, answer: LogAnswer::Whole };
+            }
+        }
+    }
 }
