@@ -12,6 +12,7 @@ use lib.Seq.{getD-set-same, getD-set-other}
 use borrow.Author.Tests.{ltb-true, eqb-true, eqb-false, eq-eqb, ne-eqb, lt-leb, le-leb}
 use Rattle.model.specs.Tests.{every}
 use Rattle.laws.specs.Invariants.{occurrences}
+use Rattle.laws.proofs.Lists.{and-left, and-right}
 use Rattle.deque.specs.View.{walk}
 use Rattle.deque.specs.Steps.{link-after}
 
@@ -61,3 +62,22 @@ pub drop-walk : (next : List ℕ) (front a b : ℕ) → drop a (walk next front 
 unfolding walk link-after
 drop-walk next front zero b = rw zero-add
 drop-walk next front (suc a) b = rw suc-add (drop-walk next (getD next front 0) a b)
+
+-- ---- following a link
+
+-- what a link that is followed leaves to follow
+pub record Link (next : List ℕ) (front left : ℕ) : Type 0 where
+  pub here : front < 1024
+  pub onward : every (λ t. ltb t 1024) (walk next (getD next front 0) (left - 1)) ≡ true
+  pub same : link-after next front left ≡ link-after next (getD next front 0) (left - 1)
+
+pub follow : (next : List ℕ) (front left : ℕ) → 0 < left → every (λ t. ltb t 1024) (walk next front left) ≡ true → Link next front left
+unfolding walk every link-after
+follow next front zero h inside = absurd (omega arith)
+follow next front (suc left) h inside =
+    let less : suc left - 1 ≡ left = omega arith in
+    record {
+      here = ltb-true front 1024 (and-left (ltb front 1024) (every (λ t. ltb t 1024) (walk next (getD next front 0) left)) inside);
+      onward = rw less (and-right (ltb front 1024) (every (λ t. ltb t 1024) (walk next (getD next front 0) left)) inside);
+      same = rw less;
+    }

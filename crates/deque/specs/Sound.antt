@@ -13,28 +13,35 @@ use Rattle.laws.specs.Invariants.{Placed, Bounded, Tallied}
 use Rattle.deque.specs.declared.Numbers.{Numbers}
 use Rattle.deque.specs.View.{graph, view, worked-view}
 
+-- the arrays' lengths
+pub record Sizes (pending next ends : List ℕ) : Type 0 where
+  pub numbers : length pending ≡ 1024
+  pub links : length next ≡ 1024
+  pub places : length ends ≡ 256
+
+-- what the laws of executions tell, with at most 64 workers
+pub record Lawful (plan : Plan) (e : Execution) : Type 0 where
+  pub placed : Placed plan e
+  pub bounded : Bounded 64 e
+  pub tallied : Tallied e
+
 -- how many predecessors of a task are not worked
 unfoldable pub awaited : Plan → List Bool → ℕ → ℕ
 awaited plan worked t = length (keep (λ p. not (getD worked p false)) (predecessors plan t))
 
-pub record Sound (first second pending next ends : List ℕ) (m : Numbers) : Type 0 where
-  -- the arrays' lengths
-  pub first-size : length first ≡ 1024
-  pub second-size : length second ≡ 1024
-  pub pending-size : length pending ≡ 1024
-  pub next-size : length next ≡ 1024
-  pub ends-size : length ends ≡ 256
-  -- the plan, and the execution
-  pub few-tasks : m .tasks ≤ 1024
-  pub planned : SoundPlan (graph first second (m .tasks))
-  pub placed : Placed (graph first second (m .tasks)) (view pending next ends m)
-  pub bounded : Bounded 64 (view pending next ends m)
-  pub tallied : Tallied (view pending next ends m)
-  -- what the code keeps beside it
+-- what the code keeps beside the execution
+pub record Kept (plan : Plan) (pending : List ℕ) (m : Numbers) : Type 0 where
   pub pending-right : (t : ℕ) → t < m .tasks → getD (worked-view pending (m .tasks)) t false ≡ false →
-      getD pending t 0 ≡ awaited (graph first second (m .tasks)) (worked-view pending (m .tasks)) t
+      getD pending t 0 ≡ awaited plan (worked-view pending (m .tasks)) t
   pub done-right : m .done ≡ count-set (worked-view pending (m .tasks))
   pub head-in-ring : m .head < 64
+
+pub record Sound (first second pending next ends : List ℕ) (m : Numbers) : Type 0 where
+  pub sizes : Sizes pending next ends
+  pub few-tasks : m .tasks ≤ 1024
+  pub planned : SoundPlan (graph first second (m .tasks))
+  pub lawful : Lawful (graph first second (m .tasks)) (view pending next ends m)
+  pub kept : Kept (graph first second (m .tasks)) pending m
 
 -- no count exceeds this
 pub record Room (most : ℕ) (m : Numbers) : Type 0 where

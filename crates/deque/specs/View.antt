@@ -8,6 +8,7 @@ use lib.ListN.{getD, set}
 use Rattle.model.specs.Tests.{below}
 use Rattle.model.specs.Plan.{Plan}
 use Rattle.model.specs.Machine.{Execution, Counts}
+use Rattle.deque.specs.declared.Deque.{Deque}
 use Rattle.deque.specs.declared.Numbers.{Numbers}
 
 -- ---- the plan's graph
@@ -43,12 +44,19 @@ walk next front (suc size) = front ∷ walk next (getD next front 0) size
 abbrev pub size-at : ℕ → ℕ
 size-at place = 128 + place
 
-unfoldable pub deque-at : List ℕ → List ℕ → ℕ → List ℕ
-deque-at next ends place = walk next (getD ends place 0) (getD ends (size-at place) 0)
+-- the front and the size that are at a place, and `ends` after others were put there
+abbrev pub ends-at : List ℕ → ℕ → Deque
+ends-at ends place = record { front = getD ends place 0; size = getD ends (size-at place) 0 }
 
--- `ends` after a front and a size were put at a place
-abbrev pub put-deque : List ℕ → ℕ → ℕ → ℕ → List ℕ
-put-deque ends place front size = set (set ends place front) (size-at place) size
+abbrev pub put-deque : List ℕ → ℕ → Deque → List ℕ
+put-deque ends place deque = set (set ends place (deque .front)) (size-at place) (deque .size)
+
+-- the tasks of a deque, and of the one at a place
+abbrev pub tasks-of : List ℕ → Deque → List ℕ
+tasks-of next deque = walk next (deque .front) (deque .size)
+
+unfoldable pub deque-at : List ℕ → List ℕ → ℕ → List ℕ
+deque-at next ends place = tasks-of next (ends-at ends place)
 
 -- the first k workers' deques
 unfoldable pub deques-view : List ℕ → List ℕ → ℕ → List (List ℕ)
@@ -84,7 +92,7 @@ counts-view m =
       usage = m .usage;
     }
 
-unfoldable pub view : List ℕ → List ℕ → List ℕ → Numbers → Execution
+abbrev pub view : List ℕ → List ℕ → List ℕ → Numbers → Execution
 view pending next ends m =
     record {
       worked = worked-view pending (m .tasks);

@@ -3,8 +3,9 @@
 ghost use mathlib.Core.Path.{_≡_};
 ghost use Prim.Native.Nat.{_+_, _≤_, _<_};
 ghost use lib.ListN.{length};
-ghost use Rattle.deque.specs.View.{put-deque};
-ghost use Rattle.deque.specs.Steps.{link-after, Reachable, Releasable, Released};
+ghost use Rattle.model.specs.Machine.{stolen-count};
+ghost use Rattle.deque.specs.View.{ends-at, put-deque};
+ghost use Rattle.deque.specs.Steps.{link-after, Reachable, Releasable, Released, AllReleasable, AllReleased};
 
 // Three counts, and no total of one kind takes a cycle of another: each has a type of its own.
 pub struct WorkCycles(pub u64);
@@ -38,10 +39,22 @@ pub fn wide(x: u16) -> usize
     x as usize
 }
 
-// The front and the size of the deque at a place.
+// The deque at a place.
+pub fn deque_at(ends: &[u16; 256], place: usize) -> Deque
+    requires { ⌜ place < 128 ⌝ }
+    ensures { λ r. ⌜ r ≡ ends-at (now (ends .entry)) place ⌝ }
+{
+    let size_at = 128 + place;
+    Deque {
+        front: ends[place],
+        size: ends[size_at],
+    }
+}
+
+// A deque is put at a place.
 pub fn put(ends: &mut [u16; 256], place: usize, deque: Deque)
-    requires { ⌜ (length (now ends) ≡ 256) × (place < 128) ⌝ }
-    ensures { λ _. ⌜ now (ends .exit) ≡ put-deque (now (ends .entry)) place (deque .front) (deque .size) ⌝ }
+    requires { ⌜ place < 128 ⌝ }
+    ensures { λ _. ⌜ now (ends .exit) ≡ put-deque (now (ends .entry)) place deque ⌝ }
 {
     let size_at = 128 + place;
     ends[place] = deque.front;
@@ -63,7 +76,8 @@ pub fn ahead(next: &[u16; 1024], front: u16, steps: u16) -> u16
     task
 }
 
-// A predecessor of `task` was worked. If it was the last one that `task` awaited, `task` goes to the front of the deque.
+// A predecessor of `task` was worked. If it was the last one that `task` awaited, `task` goes to the front of the deque. An unused field,
+// 0, is no task.
 pub fn release(pending: &mut [u8; 1024], next: &mut [u16; 1024], task: u16, deque: Deque) -> Deque
     requires { ⌜ Releasable (now pending) (now next) task deque ⌝ }
     ensures { λ r. ⌜ Released (now (pending .entry)) (now (next .entry)) task deque (now (pending .exit)) (now (next .exit)) r ⌝ }
@@ -78,5 +92,29 @@ pub fn release(pending: &mut [u8; 1024], next: &mut [u16; 1024], task: u16, dequ
         return deque;
     }
     next[at] = deque.front;
-    Deque { front: task, size: deque.size + 1 }
+    Deque {
+        front: task,
+        size: deque.size + 1,
+    }
+}
+
+// A task with the successor fields `one` and `two` was worked: of the two tasks that became ready, the second goes to the front, then the
+// first before it.
+pub fn release_successors(pending: &mut [u8; 1024], next: &mut [u16; 1024], one: u16, two: u16, deque: Deque) -> Deque
+    requires { ⌜ AllReleasable (now pending) (now next) one two deque ⌝ }
+    ensures { λ r. ⌜ AllReleased (now (pending .entry)) (now (next .entry)) one two deque (now (pending .exit)) (now (next .exit)) r ⌝ }
+{
+    if one == 0 {
+        return deque;
+    }
+    let with_second = release(pending, next, two, deque);
+    release(pending, next, one, with_second)
+}
+
+// How many tasks a steal takes from the back of a deque.
+pub fn stolen_count(size: u16) -> u16
+    requires { ⌜ 2 ≤ size ⌝ }
+    ensures { λ r. ⌜ (r ≡ stolen-count size) × (r ≤ size) ⌝ }
+{
+    1
 }

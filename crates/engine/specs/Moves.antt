@@ -1,11 +1,11 @@
--- What a grant and a tick promise, over plain lists and numbers: the answer is the model's, the state makes one step of the model, a
--- refused call changes nothing, and the job is reached by one call more.
+-- What a grant and a tick promise, over plain lists and numbers: the answer is the model's, the state makes one step of the model, the job
+-- is reached by one call more, and a refused call changes nothing.
 use mathlib.Core.Path.{_≡_}
 use mathlib.Core.List.{List, [], _∷_, _++_}
 use Prim.Native.Nat.{ℕ}
 use Rattle.model.specs.Questions.{refused}
 use Rattle.model.specs.Plan.{Plan}
-use Rattle.model.specs.Machine.{Call, call-answer, step}
+use Rattle.model.specs.Machine.{Call, grants, ticks, call-answer, step}
 use Rattle.deque.specs.declared.Numbers.{Numbers}
 use Rattle.engine.specs.declared.Course.{Course}
 use Rattle.engine.specs.declared.Moved.{Moved}
@@ -30,3 +30,16 @@ pub record Unchanged (pending next ends : List ℕ) (m : Numbers) (c : Course) (
   pub same-ends : ends′ ≡ ends
   pub same-numbers : moved .numbers ≡ m
   pub same-course : moved .course ≡ c
+
+-- "11 to 17 return the number and the record unchanged";
+-- a grant reads and writes nothing of the plan's arrays, `pending` and `next`: it promises this of all that make the rest a job
+pub record GrantMoves (g : ℕ) (ends : List ℕ) (m : Numbers) (c : Course) (ends′ : List ℕ) (moved : Moved) : Type 0 where
+  pub moves : (plan : Plan) (calls : List Call) (first second pending next : List ℕ) → Reached plan calls first second pending next ends m c →
+      Moves (grants g) first second pending next ends m c pending next ends′ moved
+  pub refusal : (n : ℕ) → answer-of (moved .answer) ≡ refused n → (pending next : List ℕ) →
+      Unchanged pending next ends m c pending next ends′ moved
+
+pub record TickMoves (choices first second pending next ends : List ℕ) (m : Numbers) (c : Course) (pending′ next′ ends′ : List ℕ)
+    (moved : Moved) : Type 0 where
+  pub moves : Moves (ticks choices) first second pending next ends m c pending′ next′ ends′ moved
+  pub refusal : (n : ℕ) → answer-of (moved .answer) ≡ refused n → Unchanged pending next ends m c pending′ next′ ends′ moved

@@ -95,7 +95,7 @@ counted n (x ∷ xs) h =
       arith,
       sum-more n (λ t. cond (eqb t x) 1 0) (λ t. occurrences t xs),
       sum-of-one n x (h x (List·Memᴰ·head refl)),
-      counted n xs (λ y m. h y (List·Memᴰ·tail m))
+      counted n xs (λ y m. h y (List·Memᴰ·tail m)),
     )
 
 -- the tasks of some deques in one list
@@ -123,7 +123,7 @@ module _ {plan : Plan} {e : Execution} (placed : Placed plan e) where
         arith,
         length-append (tasks-of (e .deques)) (tasks-of (e .muggable)),
         counted (tasks plan) all (λ x m. stands placed x (omega (arith, times x, occurs x all m)) .of-plan),
-        sum-of-ones (tasks plan) (λ t. occurrences t all) (λ t. omega (arith, times t, standing-once placed t))
+        sum-of-ones (tasks plan) (λ t. occurrences t all) (λ t. omega (arith, times t, standing-once placed t)),
       )
     where
       times : (t : ℕ) → occurrences t (tasks-of (e .deques) ++ tasks-of (e .muggable)) ≡ in-deques t (e .deques) + in-deques t (e .muggable)
@@ -132,7 +132,7 @@ module _ {plan : Plan} {e : Execution} (placed : Placed plan e) where
             arith,
             occurrences-append t (tasks-of (e .deques)) (tasks-of (e .muggable)),
             occurrences-tasks-of t (e .deques),
-            occurrences-tasks-of t (e .muggable)
+            occurrences-tasks-of t (e .muggable),
           )
 
   pub worker-length : (w : ℕ) → length (deque-of e w) ≤ tasks plan

@@ -39,7 +39,7 @@ module _ (g : ℕ) (ds : List (List ℕ)) where
         in-deques-append t (take g ds) new-deques,
         in-deques-empty t (g - length ds),
         in-deques-non-empty t (drop g ds),
-        in-deques-split t g ds
+        in-deques-split t g ds,
       )
 
   pub kept-and-withdrawn-busy : busy (kept-deques g ds) + length (withdrawn-deques g ds) ≡ busy ds
@@ -50,7 +50,7 @@ module _ (g : ℕ) (ds : List (List ℕ)) where
         busy-append (take g ds) new-deques,
         busy-empty (g - length ds),
         busy-non-empty (drop g ds),
-        busy-split g ds
+        busy-split g ds,
       )
 
   pub withdrawn-filled : every non-empty (withdrawn-deques g ds) ≡ true
@@ -95,7 +95,7 @@ module _ (s : State) (on : s .started ≡ true) (g : ℕ) where
               arith,
               in-deques-append t (s .execution .muggable) (withdrawn-deques g (s .execution .deques)),
               kept-and-withdrawn g (s .execution .deques) t,
-              placed .once t
+              placed .once t,
             );
         filled =
             every-append non-empty (s .execution .muggable) (withdrawn-deques g (s .execution .deques))
@@ -115,7 +115,7 @@ module _ (s : State) (on : s .started ≡ true) (g : ℕ) where
               arith,
               length-append (s .execution .muggable) (withdrawn-deques g (s .execution .deques)),
               kept-and-withdrawn-busy g (s .execution .deques),
-              b .lines
+              b .lines,
             );
       })
 

@@ -276,34 +276,34 @@ module _ {plan : Plan} (sound : SoundPlan plan) where
   tick-measured {s} m choices t =
       tick-cases plan choices s (Measured plan)
       (λ c. unfold ticked closed in
-          record {
-            wanted = desire-at-most plan (s .desire) (efficient-now plan (ticked plan choices s)) (satisfied-now (ticked plan choices s)) (m .wanted);
-            deques-at-most = bound;
-            quanta = m .quanta;
-            current = λ k p. absurd (not-opened p);
-            usage-at-most = omega (arith, used, o .unclosed (t .unfinished), o .usage-so-far, few);
-            cycles-at-most = omega (arith, spent, o .unclosed (t .unfinished), o .room, few);
-            successful = succeeded;
-          })
+      record {
+        wanted = desire-at-most plan (s .desire) (efficient-now plan (ticked plan choices s)) (satisfied-now (ticked plan choices s)) (m .wanted);
+        deques-at-most = bound;
+        quanta = m .quanta;
+        current = λ k p. absurd (not-opened p);
+        usage-at-most = omega (arith, used, o .unclosed (t .unfinished), o .usage-so-far, few);
+        cycles-at-most = omega (arith, spent, o .unclosed (t .unfinished), o .room, few);
+        successful = succeeded;
+      })
       (λ c. unfold ticked in
-          record {
-            wanted = m .wanted;
-            deques-at-most = bound;
-            quanta = m .quanta;
-            current = λ k p.
-                let next = opened-with p in
-                let open-before = o .unclosed (t .unfinished) in
-                record {
-                  within = omega arith;
-                  unclosed = λ f. omega (arith, not-yet c f);
-                  satisfiable = omega (arith, same-allotment, o .satisfiable);
-                  usage-so-far = omega (arith, used, o .usage-so-far, few);
-                  room = omega (arith, spent, o .room, few);
-                };
-            usage-at-most = omega (arith, used, o .unclosed (t .unfinished), o .usage-so-far, few);
-            cycles-at-most = omega (arith, spent, o .unclosed (t .unfinished), o .room, few);
-            successful = succeeded;
-          })
+      record {
+        wanted = m .wanted;
+        deques-at-most = bound;
+        quanta = m .quanta;
+        current = λ k p.
+            let next = opened-with p in
+            let open-before = o .unclosed (t .unfinished) in
+            record {
+              within = omega arith;
+              unclosed = λ f. omega (arith, not-yet c f);
+              satisfiable = omega (arith, same-allotment, o .satisfiable);
+              usage-so-far = omega (arith, used, o .usage-so-far, few);
+              room = omega (arith, spent, o .room, few);
+            };
+        usage-at-most = omega (arith, used, o .unclosed (t .unfinished), o .usage-so-far, few);
+        cycles-at-most = omega (arith, spent, o .unclosed (t .unfinished), o .room, few);
+        successful = succeeded;
+      })
     where
       e : Execution
       e = s .execution
@@ -359,9 +359,9 @@ module _ {plan : Plan} (sound : SoundPlan plan) where
       run-keeps plan Kept
       (unfold beginning in record { place = fresh-arranged sound; size = fresh-measured })
       (λ g h t q. unfold history-grant in
-          record { place = grant-arranged sound (h .state) (q .place) g; size = grant-measured (q .place) (q .size) g t })
+      record { place = grant-arranged sound (h .state) (q .place) g; size = grant-measured (q .place) (q .size) g t })
       (λ choices h t q. unfold history-tick in
-          record { place = tick-arranged sound (h .state) (q .place) choices t; size = tick-measured (q .size) choices t })
+      record { place = tick-arranged sound (h .state) (q .place) choices t; size = tick-measured (q .size) choices t })
       calls
       .size
 

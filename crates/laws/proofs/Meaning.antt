@@ -110,12 +110,12 @@ counts-mean plan calls =
     (record { work = refl; mug = refl; steal = refl; success = refl })
     (λ g h a p. record { work = p .work; mug = p .mug; steal = p .steal; success = p .success })
     (λ choices h a p.
-        let more = cycles-made plan 0 choices (h .state .execution) in
-        let c = tick-counted plan choices (h .state) a in
-        record {
-          work = omega (arith, count-of-append is-work (h .made) more, p .work, c .work);
-          mug = omega (arith, count-of-append is-mug (h .made) more, p .mug, c .mug);
-          steal = omega (arith, count-of-append is-steal (h .made) more, p .steal, c .steal);
-          success = omega (arith, count-of-append is-success (h .made) more, p .success, c .success);
-        })
+    let more = cycles-made plan 0 choices (h .state .execution) in
+    let c = tick-counted plan choices (h .state) a in
+    record {
+      work = omega (arith, count-of-append is-work (h .made) more, p .work, c .work);
+      mug = omega (arith, count-of-append is-mug (h .made) more, p .mug, c .mug);
+      steal = omega (arith, count-of-append is-steal (h .made) more, p .steal, c .steal);
+      success = omega (arith, count-of-append is-success (h .made) more, p .success, c .success);
+    })
     calls

@@ -155,7 +155,7 @@ module _ {plan : Plan} {e : Execution} (sound : SoundPlan plan) (placed : Placed
             others-marked x ne,
             successor-unworked placed t (front .of-plan) (front .unworked) x m,
             successor-unready placed t (front .of-plan) (front .unworked) x m,
-            lt-ltb x (tasks plan) (inside sound t x (front .of-plan) m)
+            lt-ltb x (tasks plan) (inside sound t x (front .of-plan) m),
           )
           (as-ready (ready plan after x))
       by-successor ne false m =
@@ -163,7 +163,7 @@ module _ {plan : Plan} {e : Execution} (sound : SoundPlan plan) (placed : Placed
             occurrences-keep (ready plan after) x (successors-of plan t),
             no-member x (successors-of plan t) m,
             others-marked x ne,
-            ready-elsewhere plan (e .worked) t x m
+            ready-elsewhere plan (e .worked) t x m,
           )
           (zero-more (cond (waiting-work plan (e .worked) x) 1 0) (ready plan (e .worked) x))
 
@@ -176,7 +176,7 @@ module _ {plan : Plan} {e : Execution} (sound : SoundPlan plan) (placed : Placed
             occurrences-keep (ready plan after) t (successors-of plan t),
             no-member t (successors-of plan t) not-own,
             is-waiting plan (e .worked) t front,
-            not-waiting-worked plan after t t-marked
+            not-waiting-worked plan after t t-marked,
           )
           (zero-anyway (ready plan after t))
       by-task false h = by-successor h (member x (successors-of plan t)) refl

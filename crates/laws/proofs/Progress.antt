@@ -34,12 +34,14 @@ use Rattle.laws.proofs.Steps.{TickAccepted, tick-accepted, tick-executi
 pub some-task-waits : {plan : Plan} {e : Execution} → SoundPlan plan → Placed plan e → finished e ≡ false → (t : ℕ) × Waits plan (e .worked) t
 unfolding finished
 some-task-waits {plan} {e} sound placed unfinished =
-    let first = first-unset (e .worked) unfinished in
-    (first .0, record {
-      of-plan = rw (placed .flags) at (first .1);
-      is-ready = is-ready plan (e .worked) (first .0) (λ p l m. first .3 p (above sound p (first .0) l m));
-      unworked = first .2;
-    })
+    let first = first-unset (e .worked) unfinished in (
+      first .0,
+      record {
+        of-plan = rw (placed .flags) at (first .1);
+        is-ready = is-ready plan (e .worked) (first .0) (λ p l m. first .3 p (above sound p (first .0) l m));
+        unworked = first .2;
+      },
+    )
 
 -- where a task stands the deque is not empty
 has-length : (t : ℕ) (d : List ℕ) → 1 ≤ occurrences t d → 1 ≤ length d
@@ -76,7 +78,7 @@ steal-leaves e w choice own two v h = rw (getD-set-other robbed w v (taken-by-st
         rw (
           eqb-true v choice p,
           getD-set-same (e .deques) choice (take (length (deque-of e choice) - 1) (deque-of e choice)) [] (filled-within (e .deques) choice (omega arith)),
-          length-take (length (deque-of e choice) - 1) (deque-of e choice)
+          length-take (length (deque-of e choice) - 1) (deque-of e choice),
         )
         (omega arith)
     go false p =
@@ -123,7 +125,7 @@ reaches plan (choice ∷ choices) w v e f all l h =
 
     go : Did e (cycle plan w choice e) →
         (finished (cycle plan w choice e) ≡ false → suc w + length choices ≡ length (cycle plan w choice e .deques) → suc w ≤ v →
-            1 ≤ length (deque-of (cycle plan w choice e) v) → nonsteal (cycle plan w choice e) < nonsteal onward) →
+        1 ≤ length (deque-of (cycle plan w choice e) v) → nonsteal (cycle plan w choice e) < nonsteal onward) →
         nonsteal e < nonsteal onward
     go (nonsteal-cycle more) later = omega (arith, nonsteal-kept plan choices (suc w) (cycle plan w choice e) (omega (arith, same)))
     go (stole none still kept leaves) later =

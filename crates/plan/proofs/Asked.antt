@@ -57,7 +57,7 @@ module _ (f : ℕ → List Question) where
 
   -- what is refused early is refused
   pub refused-early : (i n k : ℕ) → i ≤ n → first-no (flatMap f (below i)) ≡ refused k → first-no (flatMap f (below n)) ≡ refused k
-  refused-early i zero k l h = 
+  refused-early i zero k l h =
       let e : i ≡ 0 = omega arith in
       ap (λ m. first-no (flatMap f (below m))) (sym e) ∙ h
   refused-early i (suc n) k l h = ⊎-elim at-once (λ b. before (refused-early i n k (omega arith) h)) (last-or-below i (suc n) (omega arith))

@@ -59,12 +59,15 @@ header-facts bytes h =
 pub header-accepted : (bytes : List ℕ) → HeaderFacts bytes → first-no (header-questions bytes) ≡ accepted
 unfolding header-questions first-no
 header-accepted bytes h =
-    rw (le-leb 5 (length bytes) (h .long-enough), eq-eqb (form-field bytes) 1 (h .known-form),
-    le-leb 2 (responsiveness-field bytes) (h .responsive),
-    le-leb 1 (utilization-field bytes) (h .utilized),
-    le-leb (utilization-field bytes) 100 (h .percent),
-    le-leb 1 (quantum-length-field bytes) (h .timed),
-    eq-eqb (length bytes) (5 + 3 * task-count bytes) (h .exact-length))
+    rw (
+      le-leb 5 (length bytes) (h .long-enough),
+      eq-eqb (form-field bytes) 1 (h .known-form),
+      le-leb 2 (responsiveness-field bytes) (h .responsive),
+      le-leb 1 (utilization-field bytes) (h .utilized),
+      le-leb (utilization-field bytes) 100 (h .percent),
+      le-leb 1 (quantum-length-field bytes) (h .timed),
+      eq-eqb (length bytes) (5 + 3 * task-count bytes) (h .exact-length),
+    )
 
 -- ---- one task's fields: question 7
 

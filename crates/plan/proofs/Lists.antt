@@ -55,7 +55,7 @@ length-below (suc n) = length-append (below n) (n ∷ []) ∙ (ap (λ m. m + 1) 
 pub mem-below : (t n : ℕ) → t < n → List·Memᴰ t (below n)
 unfolding below
 mem-below t zero h = absurd (omega arith)
-mem-below t (suc n) h = 
+mem-below t (suc n) h =
     ⊎-elim (λ e. Memᴰ·append-right (below n) (List·Memᴰ·head e)) (λ l. Memᴰ·append-left (n ∷ []) (mem-below t n l)) (last-or-below t n h)
 
 pub below-mem : (t n : ℕ) → List·Memᴰ t (below n) → t < n
@@ -139,7 +139,7 @@ module _ {A : Type 0} where
   pub every-at : (test : A → Bool) (xs : List A) → every test xs ≡ true → (x : A) → List·Memᴰ x xs → test x ≡ true
   unfolding every
   every-at test [] h x m = absurd (List·Memᴰ·not-nil m)
-  every-at test (y ∷ ys) h x m = 
+  every-at test (y ∷ ys) h x m =
       ⊎-elim
       (λ e. ap test e ∙ first-holds (test y) (every test ys) h)
       (λ l. every-at test ys (second-holds (test y) (every test ys) h) x l)

@@ -64,7 +64,7 @@ graph-facts plan h =
     let a = ask-accepted _ _ _ h in
     let b = ask-accepted _ _ _ (a .1) in
     let counted : (t : ℕ) → 1 ≤ t → t < tasks plan → (leb 1 (length (predecessors plan t)) && leb (length (predecessors plan t)) 2) ≡ true =
-        λ t l m. every-at (λ t. leb 1 (length (predecessors plan t)) && leb (length (predecessors plan t)) 2) (drop 1 (below (tasks plan))) (a .0) t (mem-from-one t (tasks plan) l m) in
+    λ t l m. every-at (λ t. leb 1 (length (predecessors plan t)) && leb (length (predecessors plan t)) 2) (drop 1 (below (tasks plan))) (a .0) t (mem-from-one t (tasks plan) l m) in
     record {
       preceded = λ t l m. leb-true 1 (length (predecessors plan t)) (first-holds (leb 1 (length (predecessors plan t))) (leb (length (predecessors plan t)) 2) (counted t l m));
       preceded-twice = λ t l m. leb-true (length (predecessors plan t)) 2 (second-holds (leb 1 (length (predecessors plan t))) (leb (length (predecessors plan t)) 2) (counted t l m));
@@ -87,7 +87,7 @@ module _ (bytes : List ℕ) where
   header-part h = header-facts bytes (first-accepted _ _ (sym (answer-parts bytes) ∙ h))
 
   task-part : plan-answer bytes ≡ accepted → (t : ℕ) → t < task-count bytes → TaskFacts bytes t
-  task-part h t l = 
+  task-part h t l =
       task-facts bytes t
       (accepted-at (task-questions bytes) (task-count bytes)
       (first-accepted _ (first-no (graph-questions (plan-of bytes))) (second-accepted (first-no (header-questions bytes)) _ (sym (answer-parts bytes) ∙ h))) t l)
@@ -104,7 +104,7 @@ module _ (bytes : List ℕ) where
       let graph = graph-part h in
       let below-count : (t : ℕ) → t < tasks (plan-of bytes) → t < task-count bytes = λ t l. rw (tasks-of bytes) at l in
       let targets : (t : ℕ) → t < tasks (plan-of bytes) → TargetFacts (tasks (plan-of bytes)) t (successors-of (plan-of bytes) t) =
-          λ t l. same-targets (sym (tasks-of bytes)) (sym (successors-given bytes t (below-count t l))) (task-part h t (below-count t l) .targets) in
+      λ t l. same-targets (sym (tasks-of bytes)) (sym (successors-given bytes t (below-count t l))) (task-part h t (below-count t l) .targets) in
       record {
         responsive = header .responsive;
         utilized = header .utilized;

@@ -1,0 +1,43 @@
+-- `allot::join` meets its contract.
+use borrow.Author.Needs.{needs}
+use mathlib.Core.Path.{_≡_, sym, ap, _∙_}
+use Rattle.deque.specs.declared.Deque.{Deque}
+use Rattle.allot.proofs.Ring.{join-empty, join-filled}
+use Rattle.allot.proofs.join.Statement.{statement}
+use Rattle.allot.proofs.join.Tie as tie
+use Rattle.allot.proofs.join.Reads as reads
+use Rattle.allot.proofs.join.Lts as lts
+use Rattle.deque.proofs.deque_at.Reads as deque-at-reads
+use Rattle.deque.proofs.put.Reads as put-reads
+
+deque-at-requires : tie.Need-deque-at-requires
+deque-at-requires c κs = search needs
+
+returns : tie.Need-returns
+returns c =
+    join-empty (c .before .before .before .before .pre)
+    (sym (ap (λ (d : Deque). d .size) (c .before .before .deque-at .ensures)) ∙ c .if1 .taken)
+
+add-place : tie.Need-add-place
+add-place c = search needs
+
+add-place-2 : tie.Need-add-place-2
+add-place-2 c = search needs
+
+put-requires : tie.Need-put-requires
+put-requires c κs = search needs
+
+add-result : tie.Need-add-result
+add-result c = search needs
+
+returns-2 : tie.Need-returns-2
+returns-2 c =
+    let same = c .before .before .before .before .deque-at .ensures in
+    rw (c .put .ensures, same)
+    (join-filled (c .before .before .before .before .before .before .pre)
+    (λ e. c .before .before .if1 .left (ap (λ (d : Deque). d .size) same ∙ e)))
+
+pub join-spec : {M : Type 1} → statement M
+join-spec =
+    tie.close
+    (tie.spec deque-at-requires returns add-place add-place-2 put-requires add-result returns-2)

@@ -1,0 +1,42 @@
+-- `allot::withdraw` meets its contract. The loop's invariant: what has joined and what has yet to join is together what is to join.
+use borrow.Author.Needs.{needs}
+use Prim.Native.Nat.{_-_, _≤_}
+use native.Mathlib.Omega.{arith}
+use Rattle.allot.specs.Grants.{Withdrawable}
+use Rattle.allot.proofs.Withdrawals.{Withdrawing, withdrawing-none, withdrawing-room, withdrawing-more, withdrawing-done}
+use Rattle.allot.proofs.withdraw.Statement.{statement}
+use Rattle.allot.proofs.withdraw.Tie as tie
+use Rattle.allot.proofs.withdraw.Reads as reads
+use Rattle.allot.proofs.withdraw.Lts as lts
+use Rattle.allot.proofs.join.Reads as join-reads
+
+abbrev Inv-loop : tie.InvT-loop
+Inv-loop ends₀ head waiting g workers joined₀ worker₀ ends joined worker =
+    Withdrawing ends₀ head waiting g workers ends joined worker
+
+abbrev μ-loop : tie.MeasureT-loop
+μ-loop ends₀ head waiting g workers joined₀ worker₀ ends joined worker = workers - worker
+
+loop-holds : tie.Need-loop-holds Inv-loop μ-loop
+loop-holds c = withdrawing-none (c .pre)
+
+join-requires : tie.Need-join-requires Inv-loop μ-loop
+join-requires c κs = withdrawing-room (c .before .before .before .pre) (c .before .before .loop .inv) (c .before .loop-test .taken)
+
+add-worker : tie.Need-add-worker Inv-loop μ-loop
+add-worker c = omega (arith, c .before .before .before .before .pre .some-workers)
+
+loop-less : tie.Need-loop-less Inv-loop μ-loop
+loop-less c = omega arith
+
+loop-again : tie.Need-loop-again Inv-loop μ-loop
+loop-again c = 
+    withdrawing-more (c .before .before .before .before .pre) (c .before .before .before .loop .inv) (c .before .before .loop-test .taken)
+    (c .join .ensures)
+
+returns : tie.Need-returns Inv-loop μ-loop
+returns c = withdrawing-done (c .before .before .pre) (c .before .loop .inv) (c .loop-test .left)
+
+pub withdraw-spec : {M : Type 1} → statement M
+withdraw-spec =
+    tie.close (tie.spec Inv-loop μ-loop loop-holds join-requires add-worker loop-less loop-again returns)

@@ -1,0 +1,24 @@
+-- `deque::release_successors` meets its contract: the second successor's release, then the first one's.
+use Rattle.deque.proofs.Releases.{all-none, second-releasable, first-releasable, all-released}
+use Rattle.deque.proofs.release_successors.Statement.{statement}
+use Rattle.deque.proofs.release_successors.Tie as tie
+use Rattle.deque.proofs.release_successors.Reads as reads
+use Rattle.deque.proofs.release_successors.Lts as lts
+use Rattle.deque.proofs.release.Reads as release-reads
+
+returns : tie.Need-returns
+returns c = all-none _ _ _ _ _ (c .if1 .taken)
+
+release-requires : tie.Need-release-requires
+release-requires c κs = second-releasable _ _ _ _ _ (c .before .before .before .pre) (c .before .before .if1 .left)
+
+release-requires-2 : tie.Need-release-requires-2
+release-requires-2 c κs = first-releasable _ _ _ _ _ (c .before .before .before .before .before .before .pre) (c .before .before .before .before .before .if1 .left) (c .before .before .release .ensures)
+
+returns-2 : tie.Need-returns-2
+returns-2 c =
+    all-released _ _ _ _ _ (c .before .before .before .before .before .before .before .pre) (c .before .before .before .before .before .before .if1 .left) (c .before .before .before .release .ensures) (c .release2 .ensures)
+
+pub release-successors-spec : {M : Type 1} → statement M
+release-successors-spec =
+    tie.close (tie.spec returns release-requires release-requires-2 returns-2)

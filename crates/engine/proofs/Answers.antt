@@ -1,0 +1,83 @@
+-- The first "no" of a grant's and a tick's questions, from the tests of the code: one law for each way out.
+-- Assumes nothing.
+use mathlib.Core.Path.{_≡_, refl, sym, _∙_, ap}
+use mathlib.Core.Bool.{Bool, true, false, cond, not, _&&_}
+use mathlib.Core.List.{List, [], _∷_}
+use Prim.Native.Nat.{ℕ, zero, suc, _+_, _≤_, _<_}
+use native.Mathlib.Omega.{arith}
+use native.Mathlib.Numerals.{add-one}
+use borrow.Author.Tests.{lt-ltb, le-ltb, le-leb, lt-leb, eq-eqb, ne-eqb}
+use lib.Dec.{leb, ltb, eqb}
+use lib.ListN.{length, getD, drop}
+use lib.Seq.{drop-cons, drop-length}
+use Rattle.model.specs.Tests.{every}
+use Rattle.model.specs.Questions.{Answer, accepted, refused, ask, first-no}
+use Rattle.deque.specs.declared.Numbers.{Numbers}
+use Rattle.engine.specs.declared.Course.{Course}
+use Rattle.engine.specs.Asked.{grant-asked, tick-asked, choices-below}
+
+-- ---- a grant's questions, 11 to 14
+
+module _ (m : Numbers) (c : Course) (g : ℕ) where
+  pub grant-11 : m .done ≡ m .tasks → refused 11 ≡ first-no (grant-asked m c g)
+  unfolding grant-asked first-no
+  grant-11 a = rw (eq-eqb (m .done) (m .tasks) a)
+
+  pub grant-12 : (m .done ≡ m .tasks → ⊥) → c .«is_open» ≡ true → refused 12 ≡ first-no (grant-asked m c g)
+  unfolding grant-asked first-no
+  grant-12 a b = rw (ne-eqb (m .done) (m .tasks) a, b)
+
+  pub grant-13 : (m .done ≡ m .tasks → ⊥) → c .«is_open» ≡ false → 65535 ≤ c .begun → refused 13 ≡ first-no (grant-asked m c g)
+  unfolding grant-asked first-no
+  grant-13 a b d = rw (ne-eqb (m .done) (m .tasks) a, b, le-ltb (c .begun) 65535 d)
+
+  pub grant-14 : (m .done ≡ m .tasks → ⊥) → c .«is_open» ≡ false → c .begun < 65535 → c .desire < g →
+      refused 14 ≡ first-no (grant-asked m c g)
+  unfolding grant-asked first-no
+  grant-14 a b d e = rw (ne-eqb (m .done) (m .tasks) a, b, lt-ltb (c .begun) 65535 d, lt-leb g (c .desire) e)
+
+  pub grant-yes : (m .done ≡ m .tasks → ⊥) → c .«is_open» ≡ false → c .begun < 65535 → g ≤ c .desire →
+      accepted ≡ first-no (grant-asked m c g)
+  unfolding grant-asked first-no
+  grant-yes a b d e = rw (ne-eqb (m .done) (m .tasks) a, b, lt-ltb (c .begun) 65535 d, le-leb g (c .desire) e)
+
+-- ---- a tick's questions, 11 and 15 to 17
+
+module _ (m : Numbers) (c : Course) (choices : List ℕ) where
+  pub tick-11 : m .done ≡ m .tasks → refused 11 ≡ first-no (tick-asked m c choices)
+  unfolding tick-asked first-no
+  tick-11 a = rw (eq-eqb (m .done) (m .tasks) a)
+
+  pub tick-15 : (m .done ≡ m .tasks → ⊥) → c .«is_open» ≡ false → refused 15 ≡ first-no (tick-asked m c choices)
+  unfolding tick-asked first-no
+  tick-15 a b = rw (ne-eqb (m .done) (m .tasks) a, b)
+
+  pub tick-16 : (m .done ≡ m .tasks → ⊥) → c .«is_open» ≡ true → (length choices ≡ m .workers → ⊥) →
+      refused 16 ≡ first-no (tick-asked m c choices)
+  unfolding tick-asked first-no
+  tick-16 a b d = rw (ne-eqb (m .done) (m .tasks) a, b, ne-eqb (length choices) (m .workers) d)
+
+  pub tick-17 : (m .done ≡ m .tasks → ⊥) → c .«is_open» ≡ true → length choices ≡ m .workers →
+      choices-below choices (m .workers) ≡ false → refused 17 ≡ first-no (tick-asked m c choices)
+  unfolding tick-asked first-no
+  tick-17 a b d e = rw (ne-eqb (m .done) (m .tasks) a, b, eq-eqb (length choices) (m .workers) d, e)
+
+  pub tick-yes : (m .done ≡ m .tasks → ⊥) → c .«is_open» ≡ true → length choices ≡ m .workers →
+      choices-below choices (m .workers) ≡ true → accepted ≡ first-no (tick-asked m c choices)
+  unfolding tick-asked first-no
+  tick-yes a b d e = rw (ne-eqb (m .done) (m .tasks) a, b, eq-eqb (length choices) (m .workers) d, e)
+
+-- ---- 17, choice by choice: what is asked of all is asked of those from i on, where those before i passed
+
+module _ (choices : List ℕ) (workers i : ℕ) where
+  pub choice-passes : i < length choices → getD choices i 0 < workers → choices-below (drop i choices) workers ≡ choices-below (drop (i + 1) choices) workers
+  unfolding every
+  choice-passes here below = rw (add-one, drop-cons choices i 0 here, lt-ltb (getD choices i 0) workers below)
+
+  pub choice-fails : i < length choices → workers ≤ getD choices i 0 → choices-below (drop i choices) workers ≡ false
+  unfolding every
+  choice-fails here above = rw (drop-cons choices i 0 here, le-ltb (getD choices i 0) workers above)
+
+  pub choices-passed : i ≡ length choices → choices-below (drop i choices) workers ≡ true
+  unfolding every
+  choices-passed end = rw (end, drop-length choices)

@@ -1,0 +1,86 @@
+-- A grant of a job that calls reach: what the crate `allot` asks holds, and what it leaves is the model's grant.
+-- Assumes nothing.
+use mathlib.Core.Path.{_≡_, refl, sym, _∙_, ap}
+use mathlib.Core.Bool.{Bool, true, false, cond}
+use mathlib.Core.List.{List, [], _∷_, _++_}
+use Prim.Native.Nat.{ℕ, suc, _+_, _≤_, _<_}
+use native.Mathlib.Omega.{arith}
+use native.Mathlib.Numerals.{add-one}
+use lib.Dec.{eqb}
+use lib.ListN.{length}
+use Rattle.model.specs.Questions.{Answer, accepted, refused, by-answer, first-no}
+use Rattle.model.specs.Plan.{Plan}
+use Rattle.model.specs.Machine.{Execution, State, opened, Call, grants, call-answer, step}
+use Rattle.model.specs.Machine as machine
+use Rattle.laws.proofs.Steps.{GrantAccepted, grant-accepted}
+use Rattle.deque.specs.declared.Numbers.{Numbers}
+use Rattle.deque.specs.View.{view, graph}
+use Rattle.deque.specs.Sound.{Sizes, Kept}
+use Rattle.deque.proofs.Views.{workers-shown}
+use Rattle.allot.specs.Grants.{Grantable, Granted}
+use Rattle.engine.specs.declared.Course.{Course}
+use Rattle.engine.specs.declared.CallAnswer.{CallAnswer}
+use Rattle.engine.specs.declared.CallAnswer.the-variants.{Accepted}
+use Rattle.engine.specs.View.{plan-view, state-view}
+use Rattle.engine.specs.Answers.{answer-of}
+use Rattle.engine.specs.Asked.{grant-asked}
+use Rattle.engine.specs.Courses.{granted-course}
+use Rattle.engine.specs.Reached.{Reached}
+use Rattle.engine.specs.Moves.{Moves, GrantMoves}
+use Rattle.engine.proofs.Asking.{grant-asking}
+use Rattle.engine.proofs.Known.{known-arranged, known-measured}
+use Rattle.engine.proofs.Moving.{moved-to, not-both, one-call-more, refused-moves, unchanged}
+
+-- the state after a grant of g, of the execution that it leaves
+abbrev opened-state : Execution → Bool → ℕ → ℕ → ℕ → State
+opened-state e started desire begun g =
+    record { execution = e; started = cond (eqb g 0) started true; desire = desire; quantum = opened 0; begun = suc begun }
+
+module _ {plan : Plan} {calls : List Call} {first second pending next ends : List ℕ} {m : Numbers} {c : Course} (g : ℕ)
+    (r : Reached plan calls first second pending next ends m c) (asked : first-no (grant-asked m c g) ≡ accepted) where
+  grant-is-accepted : call-answer (grants g) (state-view pending next ends m c) ≡ accepted
+  grant-is-accepted = grant-asking pending next ends m (r .kept .done-right) c g ∙ asked
+
+  -- more quanta may begin
+  pub begun-fits : c .begun < 65535
+  unfolding state-view
+  begun-fits = grant-accepted g (state-view pending next ends m c) grant-is-accepted .more-quanta
+
+  pub grantable : Grantable ends m (c .started) g
+  unfolding state-view
+  grantable =
+      let facts = grant-accepted g (state-view pending next ends m c) grant-is-accepted in
+      let measured = known-measured r in
+      record {
+        places = r .sizes .places;
+        head-in-ring = r .kept .head-in-ring;
+        at-most = omega (arith, facts .wanted, measured .wanted);
+        pending = pending;
+        next = next;
+        bounded = measured .deques-at-most;
+        unstarted = λ off. sym (workers-shown next ends (m .workers)) ∙ ap length (known-arranged r .before off .no-deques);
+      }
+
+  module _ {ends′ : List ℕ} {m′ : Numbers} (granted : Granted ends m (c .started) g ends′ m′) where
+    granted-stepped : state-view pending next ends′ m′ (granted-course c g)
+        ≡ step (plan-view first second (m .tasks) c) (grants g) (state-view pending next ends m c)
+    unfolding step state-view machine.grant
+    granted-stepped =
+        rw (grant-is-accepted, add-one)
+        (ap (λ (e : Execution). opened-state e (c .started) (c .desire) (c .begun) g)
+        (granted .shown pending next (state-view pending next ends m c) refl refl))
+
+    pub granted-moves : Moves (grants g) first second pending next ends m c pending next ends′ (moved-to Accepted m′ (granted-course c g))
+    granted-moves =
+        record {
+          answered = sym grant-is-accepted;
+          stepped = granted-stepped;
+          reached = λ plan calls r. one-call-more r (grants g) pending next ends′ m′ (granted-course c g) granted-stepped
+              (unfold plan-view in rw (granted .same-tasks) refl)
+              (record { numbers = r .sizes .numbers; links = r .sizes .links; places = granted .places })
+              (record {
+                pending-right = rw (granted .same-tasks) (r .kept .pending-right);
+                done-right = rw (granted .same-tasks, granted .same-done) (r .kept .done-right);
+                head-in-ring = granted .head-in-ring;
+              });
+        }

@@ -1,0 +1,237 @@
+-- A tick of a job that calls reach: what the crate `turn` asks holds, and what its cycles leave, with the tick counted and the quantum closed
+-- where it ends, is the model's tick.
+-- Assumes nothing.
+use mathlib.Core.Path.{_≡_, refl, sym, _∙_, ap}
+use mathlib.Core.Bool.{Bool, true, false, cond, not, _&&_, and-false}
+use mathlib.Core.List.{List, [], _∷_, _++_}
+use Prim.Native.Nat.{ℕ, zero, suc, _+_, _*_, _^_, _≤_, _<_}
+use native.Mathlib.Omega.{arith}
+use native.Mathlib.Numerals.{add-one}
+use lib.Dec.{eqb, ltb}
+use lib.ListN.{length}
+use borrow.Author.Tests.{eq-eqb, ne-eqb}
+use Rattle.model.specs.Tests.{every, count-set}
+use Rattle.model.specs.Questions.{Answer, accepted, refused, by-answer, first-no}
+use Rattle.model.specs.Plan.{Plan}
+use Rattle.model.specs.Machine.{Execution, State, allotment, finished, opened, closes, closed, cycles, ticked, tick, Call, ticks, call-answer, step, efficient, satisfied, next-desire}
+use Rattle.laws.specs.Reached.{OpenQuantum}
+use Rattle.laws.proofs.Steps.{TickAccepted, tick-accepted}
+use Rattle.laws.proofs.Histories.{workers-placed}
+use Rattle.quantum.specs.Closing.{Closable, Closed, Paced}
+use Rattle.deque.specs.declared.Numbers.{Numbers}
+use Rattle.deque.specs.View.{view, graph, worked-view}
+use Rattle.deque.specs.Sound.{Sizes, Kept, Sound, Room, Within}
+use Rattle.deque.proofs.Views.{workers-shown}
+use Rattle.turn.specs.Turns.{count-limit, TickTurn, Ticked}
+use Rattle.engine.specs.declared.Course.{Course}
+use Rattle.engine.specs.declared.CallAnswer.the-variants.{Accepted}
+use Rattle.engine.specs.View.{quantum-view, plan-view, state-view}
+use Rattle.engine.specs.Asked.{tick-asked}
+use Rattle.engine.specs.Courses.{counted, quantum-ended, Countable, CourseTicked}
+use Rattle.engine.specs.Reached.{Reached}
+use Rattle.engine.specs.Moves.{Moves}
+use Rattle.engine.proofs.Asking.{finished-shown, tick-asking}
+use Rattle.engine.proofs.Graphs.{same-cycles, bare-sound, bare-placed}
+use Rattle.engine.proofs.Known.{known-sound, known-bounds, known-arranged, known-measured, known-numbers, known-power, few-tasks}
+use Rattle.engine.proofs.Moving.{moved-to, one-call-more}
+
+-- ---- the numbers beside the execution
+
+-- the tick counted
+abbrev pub counted-course : Course → Course
+counted-course c =
+    record {
+      responsiveness = c .responsiveness;
+      utilization = c .utilization;
+      «quantum_length» = c .«quantum_length»;
+      desire = c .desire;
+      started = c .started;
+      «is_open» = c .«is_open»;
+      ticks = c .ticks + 1;
+      begun = c .begun;
+    }
+
+-- the quantum closed besides, with the next desire
+abbrev pub closed-course : Course → ℕ → Course
+closed-course c desire =
+    record {
+      responsiveness = c .responsiveness;
+      utilization = c .utilization;
+      «quantum_length» = c .«quantum_length»;
+      desire = desire;
+      started = c .started;
+      «is_open» = false;
+      ticks = c .ticks + 1;
+      begun = c .begun;
+    }
+
+module _ (m : Numbers) (c : Course) (is-open : c .«is_open» ≡ true) where
+  -- where the quantum does not end
+  stays-open : (first second pending next ends : List ℕ) →
+      closes (plan-view first second (m .tasks) c) (counted (view pending next ends m) c) ≡ false →
+      state-view pending next ends m (counted-course c)
+      ≡ quantum-ended (plan-view first second (m .tasks) c) (counted (view pending next ends m) c)
+  unfolding state-view quantum-ended
+  stays-open first second pending next ends h = rw (h, is-open, add-one) refl
+
+  -- the job is finished: the quantum never closes
+  pub finished-ticked : m .done ≡ m .tasks → CourseTicked m c (counted-course c)
+  unfolding closes plan-view
+  finished-ticked all-done =
+      record {
+        same-plan = λ first second tasks. refl;
+        shows = λ first second pending next ends right.
+            stays-open first second pending next ends
+            (rw (finished-shown pending next ends m right, eq-eqb (m .done) (m .tasks) all-done) refl);
+      }
+
+  -- more ticks are due
+  pub unclosed-ticked : (c .ticks + 1 ≡ c .«quantum_length» → ⊥) → CourseTicked m c (counted-course c)
+  unfolding closes plan-view
+  unclosed-ticked more =
+      record {
+        same-plan = λ first second tasks. refl;
+        shows = λ first second pending next ends right.
+            stays-open first second pending next ends
+            (rw (ne-eqb (suc (c .ticks)) (c .«quantum_length») (λ h. more (add-one (c .ticks) ∙ h))) (and-false (not (finished (view pending next ends m)))));
+      }
+
+  -- the quantum closes
+  pub closed-ticked : (m .done ≡ m .tasks → ⊥) → c .ticks + 1 ≡ c .«quantum_length» → (desire : ℕ) →
+      Closed (c .responsiveness) (c .utilization) (c .«quantum_length») (c .desire) (m .workers) (m .usage) desire →
+      CourseTicked m c (closed-course c desire)
+  unfolding state-view quantum-ended closes closed plan-view
+  closed-ticked undone last desire after =
+      record {
+        same-plan = λ first second tasks. refl;
+        shows = λ first second pending next ends right.
+            rw (
+              finished-shown pending next ends m right,
+              ne-eqb (m .done) (m .tasks) undone,
+              eq-eqb (suc (c .ticks)) (c .«quantum_length») (sym (add-one (c .ticks)) ∙ last),
+              workers-shown,
+              after .next (plan-view first second (m .tasks) c) refl (record { at-utilization = refl; at-length = refl })
+            )
+            refl;
+      }
+
+-- ---- an accepted tick
+
+-- an open quantum's flag is set
+flag-set : (b : Bool) (k j : ℕ) → quantum-view b k ≡ opened j → b ≡ true
+flag-set true k j h = refl
+flag-set false k j h = let z : _≡_ {A = ℕ} 0 1 = cc in absurd (omega arith)
+
+shown-open : (b : Bool) (k : ℕ) → b ≡ true → quantum-view b k ≡ opened k
+shown-open b k h = rw h refl
+
+module _ {plan : Plan} {calls : List Call} {first second pending next ends : List ℕ} {m : Numbers} {c : Course} (choices : List ℕ)
+    (r : Reached plan calls first second pending next ends m c) (asked : first-no (tick-asked m c choices) ≡ accepted) where
+  abbrev shown-plan : Plan
+  shown-plan = plan-view first second (m .tasks) c
+
+  abbrev shown-state : State
+  shown-state = state-view pending next ends m c
+
+  tick-is-accepted : call-answer (ticks choices) shown-state ≡ accepted
+  tick-is-accepted = tick-asking pending next ends m (r .kept .done-right) c choices ∙ asked
+
+  facts : TickAccepted choices shown-state
+  facts = tick-accepted choices shown-state tick-is-accepted
+
+  is-open : c .«is_open» ≡ true
+  unfolding state-view
+  is-open = flag-set (c .«is_open») (c .ticks) _ (facts .open-quantum)
+
+  current : OpenQuantum shown-plan shown-state (c .ticks)
+  unfolding state-view
+  current = known-measured r .current (c .ticks) (shown-open (c .«is_open») (c .ticks) is-open)
+
+  one-each : length choices ≡ m .workers
+  unfolding state-view
+  one-each = facts .one-each ∙ workers-shown next ends (m .workers)
+
+  pub sound-job : 1 ≤ m .workers → Sound first second pending next ends m
+  unfolding state-view plan-view
+  sound-job some =
+      record {
+        sizes = r .sizes;
+        few-tasks = few-tasks r;
+        planned = bare-sound shown-plan (known-sound r);
+        lawful =
+            record {
+              placed =
+                  bare-placed shown-plan (view pending next ends m)
+                  (workers-placed (known-arranged r) (rw (workers-shown next ends (m .workers)) some));
+              bounded = known-measured r .deques-at-most;
+              tallied = known-arranged r .tally;
+            };
+        kept = r .kept;
+      }
+
+  room : Room count-limit m
+  unfolding state-view
+  room =
+      let fit = known-numbers r in
+      record {
+        works-fit = omega (arith, fit .work);
+        mugs-fit = omega (arith, fit .all-cycles);
+        steals-fit = omega (arith, fit .all-cycles);
+        successes-fit = omega (arith, fit .successes);
+        usage-fits = omega (arith, fit .usage);
+      }
+
+  pub tick-turn : 1 ≤ m .workers → TickTurn first second pending next ends m choices
+  unfolding state-view
+  tick-turn some =
+      record {
+        sound = sound-job some;
+        one-each = one-each;
+        all-workers = simp workers-shown at (facts .below-allotment);
+        room = room;
+      }
+
+  -- the tick's cycles use no more than the workers of one tick
+  pub countable : {m′ : Numbers} → m′ .usage ≤ m .usage + 64 → Countable m′ c
+  unfolding state-view plan-view
+  countable {m′} used =
+      let left : c .ticks < c .«quantum_length» = current .unclosed (facts .unfinished) in
+      record {
+        its-quantum = is-open;
+        ticks-fit = left;
+        closable =
+            record {
+              desired = known-power r;
+              usage-fits = omega (arith, left, current .usage-so-far, known-bounds r .quantum-most);
+            };
+      }
+
+  module _ {pending′ next′ ends′ : List ℕ} {m′ : Numbers} {c′ : Course}
+      (shows : view pending′ next′ ends′ m′ ≡ cycles (graph first second (m .tasks)) 0 choices (view pending next ends m))
+      (same-tasks : m′ .tasks ≡ m .tasks)
+      (sizes : Sizes pending′ next′ ends′)
+      (kept : Kept (graph first second (m′ .tasks)) pending′ m′)
+      (ended : CourseTicked m′ c c′) where
+    counted-is-ticked : counted (view pending′ next′ ends′ m′) c ≡ ticked shown-plan choices shown-state
+    unfolding ticked state-view plan-view
+    counted-is-ticked =
+        rw (shows, same-cycles shown-plan 0 choices (view pending next ends m), is-open) refl
+
+    ticked-stepped : state-view pending′ next′ ends′ m′ c′ ≡ step shown-plan (ticks choices) shown-state
+    unfolding step tick quantum-ended
+    ticked-stepped =
+        rw tick-is-accepted
+        (ended .shows first second pending′ next′ ends′ (kept .done-right)
+        ∙ (ap (λ (n : ℕ). quantum-ended (plan-view first second n c) (counted (view pending′ next′ ends′ m′) c)) same-tasks
+        ∙ ap (quantum-ended shown-plan) counted-is-ticked))
+
+    pub ticked-moves : Moves (ticks choices) first second pending next ends m c pending′ next′ ends′ (moved-to Accepted m′ c′)
+    ticked-moves =
+        record {
+          answered = sym tick-is-accepted;
+          stepped = ticked-stepped;
+          reached = λ plan calls r.
+              one-call-more r (ticks choices) pending′ next′ ends′ m′ c′ ticked-stepped
+              (ended .same-plan first second (m′ .tasks) ∙ ap (λ (n : ℕ). plan-view first second n c) same-tasks)
+              sizes kept;
+        }

@@ -1,0 +1,77 @@
+-- Every law of a history on one page, for every sound plan, of any responsiveness of 2 or more, and every list of calls, refused ones
+-- included. The statements are those of model's specs/Statements.antt and of specs/ here. A stranger reads this first.
+-- Assumes nothing.
+use mathlib.Core.List.{List}
+use Prim.Native.Nat.{_≤_}
+use Rattle.model.specs.Plan.{Plan, tasks}
+use Rattle.model.specs.Machine.{Call}
+use Rattle.model.specs.History.{run}
+use Rattle.model.specs.Statements.{SoundPlan, Progress, Demand3, MugBound, OneIsEfficient, DesireIsPower, OnceAndInOrder, FinishedExactly}
+use Rattle.laws.specs.Invariants.{Bounded}
+use Rattle.laws.specs.Reached.{Arranged, Measured, Numbers, largest-granted}
+use Rattle.laws.specs.Meaning.{CountsMean}
+use Rattle.laws.proofs.PairingLaw.{pairing-of}
+use Rattle.laws.proofs.MugLimitLaw.{mug-limit-of, mug-bound-of}
+use Rattle.laws.proofs.Carried.{Carried, carried}
+use Rattle.laws.proofs.Progress as Progress
+use Rattle.laws.proofs.Order as Order
+use Rattle.laws.proofs.Histories as Histories
+use Rattle.laws.proofs.Meaning as Meaning
+
+module _ {plan : Plan} (sound : SoundPlan plan) (calls : List Call) where
+  -- "While a job is unfinished, each tick with a worker granted does at least one work or mug tick."
+  pub progress : Progress plan (run plan calls)
+  progress = Progress.progress sound calls
+
+  carries : Carried plan (run plan calls)
+  carries = carried plan sound (Progress.progress sound) calls
+
+  -- M × L × D ≤ 100 × (1 + R) × (W + M); and each closed inefficient quantum has an earlier closed, efficient and satisfied one whose desire
+  -- times R is its own, and no two share one
+  pub demand-three : Demand3 plan calls
+  demand-three =
+      let c = carries in
+      record { limit = mug-limit-of plan (run plan calls) _ _ (c .balance); pairing = pairing-of plan _ _ (c .stack) }
+
+  -- where L × D > 100 × (1 + R): M × (L × D − 100 × (1 + R)) ≤ 100 × (1 + R) × W, so the work alone bounds the mugs
+  pub mug-bound : MugBound plan (run plan calls)
+  mug-bound = mug-bound-of plan (run plan calls) (demand-three .limit)
+
+  -- "Wanted 1 is never met by an inefficient round."
+  pub one-is-efficient : OneIsEfficient (run plan calls .closed-quanta)
+  one-is-efficient = carries .stack .above-one
+
+  -- the desire is a power of R, at most 64, so that no division leaves a remainder
+  pub desire-is-power : DesireIsPower plan (run plan calls)
+  desire-is-power =
+      let c = carries in
+      record { power = c .power; is-power = c .desire .is-power; at-most = c .desire .at-most }
+
+  -- "Each piece is worked at most once, after all before it"; the state shows exactly those of the order
+  pub once-and-in-order : OnceAndInOrder plan (run plan calls)
+  once-and-in-order = Order.once-and-in-order sound calls
+
+  -- "finished is shown when all pieces are worked and never otherwise"
+  pub finished-exactly : FinishedExactly plan (run plan calls)
+  finished-exactly = Order.finished-exactly sound calls
+
+  -- once a worker was granted, the tasks in deques and muggable deques are exactly the ready unworked ones, each once; a muggable deque is
+  -- never empty; work counts the tasks worked
+  pub arranged : Arranged plan (run plan calls .state)
+  arranged = Histories.arranged sound calls
+
+  -- non-empty deques and muggable deques together number at most the largest count granted so far
+  pub largest-bounds : Bounded (largest-granted (run plan calls)) (run plan calls .state .execution)
+  largest-bounds = Histories.largest-bounds sound calls
+
+  -- .. so at most 64; and how large each count can be
+  pub measured : Measured plan (run plan calls .state)
+  measured = Histories.measured sound calls
+
+  -- the same in numbers, for fields of document 01's widths: no sum of the code can wrap
+  pub numbers : plan .quantum-length ≤ 65535 → tasks plan ≤ 1024 → Numbers (run plan calls .state)
+  numbers short small = Histories.numbers sound short small calls
+
+  -- work, mug, steal and success count the cycles of their kind among all that the workers made
+  pub counts-mean : CountsMean (run plan calls)
+  counts-mean = Meaning.counts-mean plan calls

@@ -1,0 +1,3 @@
+-- The proofs, by topic.
+pub mod Table
+pub mod Desires

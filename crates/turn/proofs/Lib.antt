@@ -1,0 +1,5 @@
+-- The proofs, by topic.
+pub mod Executions
+pub mod Mugging
+pub mod Stealing
+pub mod Working
