@@ -17,10 +17,10 @@ use Rattle.engine.specs.declared.Moved.{Moved}
 use Rattle.engine.specs.View.{plan-view, state-view}
 use Rattle.engine.specs.Answers.{answer-of}
 use Rattle.engine.specs.Reached.{Reached}
-use Rattle.engine.specs.Moves.{Moves}
+use Rattle.engine.specs.Moves.{Moves, GrantMoves}
 use Rattle.log.specs.declared.Place.{Place}
 use Rattle.log.specs.declared.LogAnswer.{LogAnswer}
-use Rattle.log.specs.Running.{GrantMoves, Job, log-answer-of, counted-at, Runs}
+use Rattle.log.specs.Running.{log-answer-of, counted-at, Runs}
 
 -- ---- model's run of one call more
 
@@ -69,15 +69,15 @@ module _ (log first second pending₀ next₀ ends₀ : List ℕ) (m : Numbers) 
         inside = omega arith;
       }
 
-  module _ (job : Job first second pending₀ next₀ ends₀ m c) {pending next ends : List ℕ} {place : Place} (so-far : SoFar pending next ends place)
+  module _ (plan : Plan) (calls : List Call) (reached : Reached plan calls first second pending₀ next₀ ends₀ m c)
+      {pending next ends : List ℕ} {place : Place} (so-far : SoFar pending next ends place)
     where
       -- the job is still a job
-      pub job-now : Job first second pending next ends (place .numbers) (place .course)
-      job-now = record { plan = job .plan; calls = job .calls ++ so-far .done; reached = so-far .reached-so-far _ _ (job .reached) }
+      pub reached-now : Reached plan (calls ++ so-far .done) first second pending next ends (place .numbers) (place .course)
+      reached-now = so-far .reached-so-far plan calls reached
 
       same-plan : plan-view first second (place .numbers .tasks) (place .course) ≡ plan-view first second (m .tasks) c
-      unfolding job-now
-      same-plan = job-now .reached .its-plan ∙ sym (job .reached .its-plan)
+      same-plan = reached-now .its-plan ∙ sym (reached .its-plan)
 
       -- model's step of the job as it is now
       ran-now : (call : Call) {pending′ next′ ends′ : List ℕ} {moved : Moved} →
@@ -93,7 +93,7 @@ module _ (log first second pending₀ next₀ ends₀ : List ℕ) (m : Numbers) 
       -- what a grant promises, of this job
       pub granted : {g : ℕ} {ends′ : List ℕ} {moved : Moved} → GrantMoves g ends (place .numbers) (place .course) ends′ moved →
           Moves (grants g) first second pending next ends (place .numbers) (place .course) pending next ends′ moved
-      granted promise = promise .moves (job-now .plan) (job-now .calls) first second pending next (job-now .reached)
+      granted promise = promise .moves plan (calls ++ so-far .done) first second pending next reached-now
 
       -- one call more, with the next entry at `at`
       pub one-more : (call : Call) {pending′ next′ ends′ : List ℕ} {moved : Moved} (at : ℕ) {after : Place} →

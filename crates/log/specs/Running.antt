@@ -5,7 +5,7 @@ use mathlib.Core.List.{List, _++_}
 use Prim.Native.Nat.{ℕ, _+_}
 use Rattle.model.specs.Questions.{Answer, accepted, refused}
 use Rattle.model.specs.Plan.{Plan}
-use Rattle.model.specs.Machine.{Call, grants, ticks}
+use Rattle.model.specs.Machine.{Call}
 use Rattle.model.specs.Log.{entries, refusals-in, run-log, log-answer}
 use Rattle.deque.specs.declared.Numbers.{Numbers}
 use Rattle.engine.specs.declared.Course.{Course}
@@ -13,17 +13,10 @@ use Rattle.engine.specs.declared.Moved.{Moved}
 use Rattle.engine.specs.View.{plan-view, state-view}
 use Rattle.engine.specs.Answers.{answer-of}
 use Rattle.engine.specs.Reached.{Reached}
-use Rattle.engine.specs.Moves.{Moves}
 use Rattle.log.specs.declared.Place.{Place}
 use Rattle.log.specs.declared.Ran.{Ran}
 use Rattle.log.specs.declared.LogAnswer.{LogAnswer}
 use Rattle.log.specs.declared.LogAnswer.the-variants.{Whole, BrokenEntry}
-
--- STUB: some plan and calls reach the arrays
-pub record Job (first second pending next ends : List ℕ) (m : Numbers) (c : Course) : Type 0 where
-  pub plan : Plan
-  pub calls : List Call
-  pub reached : Reached plan calls first second pending next ends m c
 
 -- the paper's number of the log's answer: "Is the entry whole? 18"
 abbrev pub log-answer-of : LogAnswer → Answer
@@ -48,13 +41,3 @@ pub record Runs (log first second pending next ends : List ℕ) (m : Numbers) (c
   pub answered : log-answer-of (ran .answer) ≡ log-answer log
   pub reached : (plan : Plan) (calls : List Call) → Reached plan calls first second pending next ends m c →
       Reached plan (calls ++ entries log .calls) first second pending′ next′ ends′ (ran .numbers) (ran .course)
-
--- STUB
-pub record GrantMoves (g : ℕ) (ends : List ℕ) (m : Numbers) (c : Course) (ends′ : List ℕ) (moved : Moved) : Type 0 where
-  pub moves : (plan : Plan) (calls : List Call) (first second pending next : List ℕ) → Reached plan calls first second pending next ends m c →
-      Moves (grants g) first second pending next ends m c pending next ends′ moved
-
--- STUB
-pub record TickMoves (choices first second pending next ends : List ℕ) (m : Numbers) (c : Course) (pending′ next′ ends′ : List ℕ)
-    (moved : Moved) : Type 0 where
-  pub moves : Moves (ticks choices) first second pending next ends m c pending′ next′ ends′ moved

@@ -2,12 +2,14 @@
 ghost use mathlib.Core.Path.{_≡_};
 ghost use Prim.Native.Nat.{ℕ, _+_, _^_, _<_};
 ghost use mathlib.Core.List.{List};
-ghost use Rattle.model.specs.Machine.{grants, ticks};
+ghost use Rattle.model.specs.Plan.{Plan};
+ghost use Rattle.model.specs.Machine.{Call};
 ghost use Rattle.model.specs.Log.{refusals-in};
 ghost use Rattle.engine.specs.Answers.{answer-of};
-ghost use Rattle.engine.specs.Moves.{Moves};
+ghost use Rattle.engine.specs.Reached.{Reached};
+ghost use Rattle.engine.specs.Moves.{GrantMoves, TickMoves};
 ghost use Rattle.log.specs.Reading.{entry-of};
-ghost use Rattle.log.specs.Running.{Job, counted-at, Runs, GrantMoves, TickMoves};
+ghost use Rattle.log.specs.Running.{counted-at, Runs};
 use deque::Numbers;
 use engine::CallAnswer;
 use engine::Course;
@@ -98,6 +100,7 @@ fn counted(moved: Moved, refusals: u64, at: usize) -> Place
 
 // STUB
 fn stub_grant(ends: &mut [u16; 256], m: Numbers, c: Course, g: u8) -> Moved
+    requires { ⌜ ((plan : Plan) × (calls : List Call) × (first : List ℕ) × (second : List ℕ) × (pending : List ℕ) × (next : List ℕ) × Reached plan calls first second pending next (now ends) m c) ⌝ }
     ensures { λ r. ⌜ GrantMoves g (now (ends .entry)) m c (now (ends .exit)) r ⌝ }
 {
     Moved { answer: CallAnswer::Finished, numbers: m, course: c }
@@ -105,7 +108,7 @@ fn stub_grant(ends: &mut [u16; 256], m: Numbers, c: Course, g: u8) -> Moved
 
 // STUB
 fn stub_tick(first: &[u16; 1024], second: &[u16; 1024], pending: &mut [u8; 1024], next: &mut [u16; 1024], ends: &mut [u16; 256], m: Numbers, c: Course, choices: &[u8]) -> Moved
-    requires { ⌜ Job (now first) (now second) (now pending) (now next) (now ends) m c ⌝ }
+    requires { ⌜ ((plan : Plan) × (calls : List Call) × Reached plan calls (now first) (now second) (now pending) (now next) (now ends) m c) ⌝ }
     ensures { λ r. ⌜ TickMoves (now (choices .entry)) (now (first .entry)) (now (second .entry)) (now (pending .entry)) (now (next .entry)) (now (ends .entry)) m c (now (pending .exit)) (now (next .exit)) (now (ends .exit)) r ⌝ }
 {
     Moved { answer: CallAnswer::Finished, numbers: m, course: c }
@@ -113,7 +116,7 @@ fn stub_tick(first: &[u16; 1024], second: &[u16; 1024], pending: &mut [u8; 1024]
 
 // A log of any bytes, run on a job in place.
 pub fn run(first: &[u16; 1024], second: &[u16; 1024], pending: &mut [u8; 1024], next: &mut [u16; 1024], ends: &mut [u16; 256], m: Numbers, c: Course, log: &[u8]) -> Ran
-    requires { ⌜ Job (now first) (now second) (now pending) (now next) (now ends) m c ⌝ }
+    requires { ⌜ ((plan : Plan) × (calls : List Call) × Reached plan calls (now first) (now second) (now pending) (now next) (now ends) m c) ⌝ }
     ensures { λ r. ⌜ Runs (now (log .entry)) (now (first .entry)) (now (second .entry)) (now (pending .entry)) (now (next .entry)) (now (ends .entry)) m c (now (pending .exit)) (now (next .exit)) (now (ends .exit)) r ⌝ }
 {
     let mut place = Place {

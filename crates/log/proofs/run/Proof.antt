@@ -11,7 +11,7 @@ use Rattle.log.specs.declared.Entry.the-variants.{Grant, Tick}
 use Rattle.log.specs.declared.LogAnswer.the-variants.{Whole, BrokenEntry}
 use Rattle.log.specs.declared.Place.{Place}
 use Rattle.log.proofs.Entries.{ReadAt, grant-inside, tick-inside, entries-read, choices-read}
-use Rattle.log.proofs.Running.{SoFar, starts, job-now, granted, one-more, ends-here}
+use Rattle.log.proofs.Running.{SoFar, starts, reached-now, granted, one-more, ends-here}
 use Rattle.log.proofs.run.Statement.{statement}
 use Rattle.log.proofs.run.Tie as tie
 use Rattle.log.proofs.run.Reads as reads
@@ -49,7 +49,8 @@ enum-known-g : tie.Need-enum-known-g Inv-loop μ-loop
 enum-known-g c = search needs
 
 stub-grant-requires : tie.Need-stub-grant-requires Inv-loop μ-loop
-stub-grant-requires c κs = search needs
+stub-grant-requires c κs =
+    (_, _, _, _, _, _, reached-now _ _ _ _ _ _ _ _ (c .before .before .before .before .before .before .before .before .before .pre .0) (c .before .before .before .before .before .before .before .before .before .pre .1) (c .before .before .before .before .before .before .before .before .before .pre .2) (c .before .before .before .before .before .before .before .loop .inv))
 
 add-counted : tie.Need-add-counted Inv-loop μ-loop
 add-counted c = omega (arith, grant-inside (grant-read (c .before .before .before)), log-fits (c .before .before .before .before .before .before .before .before .before .before))
@@ -65,7 +66,7 @@ loop-again c =
     let start = c .before .before .before .before .before .before .before .before .before .before .before in
     let so-far = c .before .before .before .before .before .before .before .before .before .loop .inv in
     let read = grant-read (c .before .before .before .before) in
-    one-more _ _ _ _ _ _ _ _ (start .pre) so-far _ _ (granted _ _ _ _ _ _ _ _ (start .pre) so-far (c .before .stub-grant .ensures)) (c .counted .ensures) (entries-read read) (omega arith) (omega (arith, grant-inside read))
+    one-more _ _ _ _ _ _ _ _ (start .pre .0) (start .pre .1) (start .pre .2) so-far _ _ (granted _ _ _ _ _ _ _ _ (start .pre .0) (start .pre .1) (start .pre .2) so-far (c .before .stub-grant .ensures)) (c .counted .ensures) (entries-read read) (omega arith) (omega (arith, grant-inside read))
 
 enum-known-start : tie.Need-enum-known-start Inv-loop μ-loop
 enum-known-start c = search needs
@@ -86,7 +87,7 @@ part-stub-tick-end c =
 
 stub-tick-requires : tie.Need-stub-tick-requires Inv-loop μ-loop
 stub-tick-requires c κs =
-    job-now _ _ _ _ _ _ _ _ (c .before .before .before .before .before .before .before .before .before .before .before .before .pre) (c .before .before .before .before .before .before .before .before .before .before .loop .inv)
+    (_, _, reached-now _ _ _ _ _ _ _ _ (c .before .before .before .before .before .before .before .before .before .before .before .before .pre .0) (c .before .before .before .before .before .before .before .before .before .before .before .before .pre .1) (c .before .before .before .before .before .before .before .before .before .before .before .before .pre .2) (c .before .before .before .before .before .before .before .before .before .before .loop .inv))
 
 counted-requires-2 : tie.Need-counted-requires-2 Inv-loop μ-loop
 counted-requires-2 c κs =
@@ -99,14 +100,14 @@ loop-less-2 c =
 loop-again-2 : tie.Need-loop-again-2 Inv-loop μ-loop
 loop-again-2 c =
     let read = tick-read (c .before .before .before .before .before .before .before) in
-    one-more _ _ _ _ _ _ _ _ (c .before .before .before .before .before .before .before .before .before .before .before .before .before .before .pre) (c .before .before .before .before .before .before .before .before .before .before .before .before .loop .inv) _ _ (c .before .stub-tick .ensures .moves) (c .counted2 .ensures) (choices-read read) (omega (arith, tick-inside read)) (tick-inside read .1)
+    one-more _ _ _ _ _ _ _ _ (c .before .before .before .before .before .before .before .before .before .before .before .before .before .before .pre .0) (c .before .before .before .before .before .before .before .before .before .before .before .before .before .before .pre .1) (c .before .before .before .before .before .before .before .before .before .before .before .before .before .before .pre .2) (c .before .before .before .before .before .before .before .before .before .before .before .before .loop .inv) _ _ (c .before .stub-tick .ensures .moves) (c .counted2 .ensures) (choices-read read) (omega (arith, tick-inside read)) (tick-inside read .1)
 
 enum-told : tie.Need-enum-told Inv-loop μ-loop
 enum-told c = search needs
 
 returns : tie.Need-returns Inv-loop μ-loop
 returns c =
-    ends-here _ _ _ _ _ _ _ _ (c .before .before .before .before .before .before .before .pre) (c .before .before .before .before .before .loop .inv) true BrokenEntry
+    ends-here _ _ _ _ _ _ _ _ (c .before .before .before .before .before .before .before .pre .0) (c .before .before .before .before .before .before .before .pre .1) (c .before .before .before .before .before .before .before .pre .2) (c .before .before .before .before .before .loop .inv) true BrokenEntry
     (entries-read (record { is = sym (c .before .before .entry-at .ensures) ∙ c .enum-told .given .1 })) refl
 
 enum-told-2 : tie.Need-enum-told-2 Inv-loop μ-loop
@@ -114,7 +115,7 @@ enum-told-2 c = search needs
 
 returns-2 : tie.Need-returns-2 Inv-loop μ-loop
 returns-2 c =
-    ends-here _ _ _ _ _ _ _ _ (c .before .before .before .before .before .before .before .pre) (c .before .before .before .before .before .loop .inv) false Whole
+    ends-here _ _ _ _ _ _ _ _ (c .before .before .before .before .before .before .before .pre .0) (c .before .before .before .before .before .before .before .pre .1) (c .before .before .before .before .before .before .before .pre .2) (c .before .before .before .before .before .loop .inv) false Whole
     (entries-read (record { is = sym (c .before .before .entry-at .ensures) ∙ c .enum-told2 .given .1 })) refl
 
 pub run-spec : {M : Type 1} → statement M
