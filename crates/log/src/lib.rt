@@ -43,6 +43,32 @@ pub fn entry_at(log: &[u8], at: usize) -> Entry
     Entry::Broken
 }
 
+// "Entries are read one after the other from the same lent bytes": a log, and a place in it.
+pub struct LogReader<'a> {
+    pub log: &'a [u8],
+    pub at: usize,
+}
+
+pub fn reader<'a>(log: &'a [u8], at: usize) -> LogReader<'a>
+    ensures { λ r. ⌜ (r .log ≡ log .entry) × (r .at ≡ at) ⌝ }
+{
+    LogReader { log, at }
+}
+
+// The entry at the reader's place.
+pub fn next_entry<'a>(r: LogReader<'a>) -> Entry
+    ensures { λ e. ⌜ e ≡ entry-of (now (r .entry .log)) (r .entry .at) ⌝ }
+{
+    entry_at(r.log, r.at)
+}
+
+// The same for a log and a place.
+pub fn read_entry(log: &[u8], at: usize) -> Entry
+    ensures { λ r. ⌜ r ≡ entry-of (now (log .entry)) at ⌝ }
+{
+    next_entry(reader(log, at))
+}
+
 // How far a log was run: the job's numbers, the refused calls so far, and where the next entry stands.
 pub struct Place {
     pub numbers: Numbers,
@@ -130,7 +156,7 @@ pub fn run(first: &[u16; 1024], second: &[u16; 1024], pending: &mut [u8; 1024], 
         let course = place.course;
         let refusals = place.refusals;
         let at = place.at;
-        match entry_at(log, at) {
+        match read_entry(log, at) {
             Entry::Grant(g) => {
                 let moved = stub_grant(ends, numbers, course, g);
                 place = counted(moved, refusals, at + 1);

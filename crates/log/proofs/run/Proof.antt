@@ -17,7 +17,7 @@ use Rattle.log.proofs.run.Tie as tie
 use Rattle.log.proofs.run.Reads as reads
 use Rattle.log.proofs.run.Lts as lts
 use Rattle.log.proofs.counted.Reads as counted-reads
-use Rattle.log.proofs.entry_at.Reads as entry-at-reads
+use Rattle.log.proofs.read_entry.Reads as read-entry-reads
 use Rattle.log.proofs.stub_grant.Reads as stub-grant-reads
 use Rattle.log.proofs.stub_tick.Reads as stub-tick-reads
 
@@ -33,17 +33,17 @@ log-fits s = s .good .1 .1 .1 .1 .1 .1 .1 .0 .0
 
 grant-read : (c : tie.After-g Inv-loop μ-loop) →
     ReadAt (now (c .before .before .before .before .before .before .before .args .log)) (c .before .before .before .before .before .loop .place .at) (Grant (c .g .given .0 .0))
-grant-read c = record { is = sym (c .before .before .entry-at .ensures) ∙ c .g .given .1 }
+grant-read c = record { is = sym (c .before .before .read-entry .ensures) ∙ c .g .given .1 }
 
 tick-read : (c : tie.After-start Inv-loop μ-loop) →
     ReadAt (now (c .before .before .before .before .before .before .before .args .log)) (c .before .before .before .before .before .loop .place .at) (Tick (c .start .given .0 .0) (c .start .given .0 .1 .0))
-tick-read c = record { is = sym (c .before .before .entry-at .ensures) ∙ c .start .given .1 }
+tick-read c = record { is = sym (c .before .before .read-entry .ensures) ∙ c .start .given .1 }
 
 loop-holds : tie.Need-loop-holds Inv-loop μ-loop
 loop-holds c = starts _ _ _ _ _ _ _ _
 
-entry-at-requires : tie.Need-entry-at-requires Inv-loop μ-loop
-entry-at-requires c κs = search needs
+read-entry-requires : tie.Need-read-entry-requires Inv-loop μ-loop
+read-entry-requires c κs = search needs
 
 enum-known-g : tie.Need-enum-known-g Inv-loop μ-loop
 enum-known-g c = search needs
@@ -108,7 +108,7 @@ enum-told c = search needs
 returns : tie.Need-returns Inv-loop μ-loop
 returns c =
     ends-here _ _ _ _ _ _ _ _ (c .before .before .before .before .before .before .before .pre .0) (c .before .before .before .before .before .before .before .pre .1) (c .before .before .before .before .before .before .before .pre .2) (c .before .before .before .before .before .loop .inv) true BrokenEntry
-    (entries-read (record { is = sym (c .before .before .entry-at .ensures) ∙ c .enum-told .given .1 })) refl
+    (entries-read (record { is = sym (c .before .before .read-entry .ensures) ∙ c .enum-told .given .1 })) refl
 
 enum-told-2 : tie.Need-enum-told-2 Inv-loop μ-loop
 enum-told-2 c = search needs
@@ -116,7 +116,7 @@ enum-told-2 c = search needs
 returns-2 : tie.Need-returns-2 Inv-loop μ-loop
 returns-2 c =
     ends-here _ _ _ _ _ _ _ _ (c .before .before .before .before .before .before .before .pre .0) (c .before .before .before .before .before .before .before .pre .1) (c .before .before .before .before .before .before .before .pre .2) (c .before .before .before .before .before .loop .inv) false Whole
-    (entries-read (record { is = sym (c .before .before .entry-at .ensures) ∙ c .enum-told2 .given .1 })) refl
+    (entries-read (record { is = sym (c .before .before .read-entry .ensures) ∙ c .enum-told2 .given .1 })) refl
 
 pub run-spec : {M : Type 1} → statement M
 run-spec =
@@ -125,7 +125,7 @@ run-spec =
     Inv-loop
     μ-loop
     loop-holds
-    entry-at-requires
+    read-entry-requires
     enum-known-g
     stub-grant-requires
     add-counted
