@@ -36,7 +36,7 @@ same-entries (suc most) (suc other) (first ∷ after) h k =
 pub entries-cons : (first : ℕ) (after : List ℕ) →
     entries (first ∷ after)
     ≡ cond (entry-whole first after) (entry-then (entry-call first after) (entries (drop (choices-announced first) after)))
-      (record { calls = []; broken = true })
+    (record { calls = []; broken = true })
 unfolding entries entries-up-to
 entries-cons first after =
     ap (λ rest. cond (entry-whole first after) (entry-then (entry-call first after) rest) (record { calls = []; broken = true }))

@@ -20,7 +20,8 @@ use Rattle.engine.specs.Reached.{Reached}
 use Rattle.engine.specs.Moves.{Moves, GrantMoves}
 use Rattle.log.specs.declared.Place.{Place}
 use Rattle.log.specs.declared.LogAnswer.{LogAnswer}
-use Rattle.log.specs.Running.{log-answer-of, counted-at, Runs}
+use Rattle.log.specs.declared.Ran.{Ran as Ended}
+use Rattle.log.specs.Running.{log-answer-of, counted-at, ended-at, Runs}
 
 -- ---- model's run of one call more
 
@@ -120,17 +121,17 @@ module _ (log first second pending₀ next₀ ends₀ : List ℕ) (m : Numbers) 
           })
 
       -- the log ends here, with a broken entry or without
-      pub ends-here : (broken : Bool) (answer : LogAnswer) → entries (drop (place .at) log) ≡ record { calls = []; broken = broken } →
-          log-answer-of answer ≡ cond broken (refused 18) accepted →
-          Runs log first second pending₀ next₀ ends₀ m c pending next ends
-          (record { numbers = place .numbers; course = place .course; refusals = place .refusals; answer = answer })
+      pub ends-here : (broken : Bool) (answer : LogAnswer) {ran : Ended} → ran ≡ ended-at place answer →
+          entries (drop (place .at) log) ≡ record { calls = []; broken = broken } → log-answer-of answer ≡ cond broken (refused 18) accepted →
+          Runs log first second pending₀ next₀ ends₀ m c pending next ends ran
       unfolding run-log log-answer
-      ends-here broken answer here number =
+      ends-here broken answer e here number =
           let all : entries log .calls ≡ so-far .done = so-far .calls-left ∙ ap (λ (e : Entries). so-far .done ++ e .calls) here ∙ append-nil (so-far .done) in
           let ran = ap (λ calls. run-calls (plan-view first second (m .tasks) c) calls (record { state = state-view pending₀ next₀ ends₀ m c; refusals = 0 })) all ∙ so-far .ran in
-          record {
+          rw e
+          (record {
             state-after = sym (ap (λ (r : Ran). r .state) ran);
             refusals-counted = sym (ap (λ (r : Ran). r .refusals) ran);
             answered = number ∙ ap (λ b. cond b (refused 18) accepted) (sym (so-far .broken-left ∙ ap (λ (e : Entries). e .broken) here));
             reached = λ plan calls r. rw all (so-far .reached-so-far plan calls r);
-          }
+          })

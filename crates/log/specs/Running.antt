@@ -33,6 +33,11 @@ counted-at moved refusals at =
       at = at;
     }
 
+-- what is handed back where the log ended
+abbrev pub ended-at : Place → LogAnswer → Ran
+ended-at place answer =
+    record { numbers = place .numbers; course = place .course; refusals = place .refusals; answer = answer }
+
 -- first and second are the plan's arrays; pending, next, ends, m, c the job that the run began with; the primed ones and `ran` what it left
 pub record Runs (log first second pending next ends : List ℕ) (m : Numbers) (c : Course) (pending′ next′ ends′ : List ℕ) (ran : Ran) : Type 0 where
   pub state-after : state-view pending′ next′ ends′ (ran .numbers) (ran .course)

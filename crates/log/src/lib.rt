@@ -7,9 +7,8 @@ ghost use Rattle.model.specs.Machine.{Call};
 ghost use Rattle.model.specs.Log.{refusals-in};
 ghost use Rattle.engine.specs.Answers.{answer-of};
 ghost use Rattle.engine.specs.Reached.{Reached};
-ghost use Rattle.engine.specs.Moves.{GrantMoves, TickMoves};
 ghost use Rattle.log.specs.Reading.{entry-of};
-ghost use Rattle.log.specs.Running.{counted-at, Runs};
+ghost use Rattle.log.specs.Running.{counted-at, ended-at, Runs};
 use deque::Numbers;
 use engine::CallAnswer;
 use engine::Course;
@@ -117,31 +116,38 @@ fn counted(moved: Moved, refusals: u64, at: usize) -> Place
     let course = moved.course;
     let more = refused(answer);
     Place {
-        numbers: numbers,
-        course: course,
+        numbers,
+        course,
         refusals: refusals + more,
-        at: at,
+        at,
     }
 }
 
-// STUB
-fn stub_grant(ends: &mut [u16; 256], m: Numbers, c: Course, g: u8) -> Moved
-    requires { ⌜ ((plan : Plan) × (calls : List Call) × (first : List ℕ) × (second : List ℕ) × (pending : List ℕ) × (next : List ℕ) × Reached plan calls first second pending next (now ends) m c) ⌝ }
-    ensures { λ r. ⌜ GrantMoves g (now (ends .entry)) m c (now (ends .exit)) r ⌝ }
+// The log ended at this place.
+fn ended(place: Place, answer: LogAnswer) -> Ran
+    ensures { λ r. ⌜ r ≡ ended-at place answer ⌝ }
 {
-    Moved { answer: CallAnswer::Finished, numbers: m, course: c }
-}
-
-// STUB
-fn stub_tick(first: &[u16; 1024], second: &[u16; 1024], pending: &mut [u8; 1024], next: &mut [u16; 1024], ends: &mut [u16; 256], m: Numbers, c: Course, choices: &[u8]) -> Moved
-    requires { ⌜ ((plan : Plan) × (calls : List Call) × Reached plan calls (now first) (now second) (now pending) (now next) (now ends) m c) ⌝ }
-    ensures { λ r. ⌜ TickMoves (now (choices .entry)) (now (first .entry)) (now (second .entry)) (now (pending .entry)) (now (next .entry)) (now (ends .entry)) m c (now (pending .exit)) (now (next .exit)) (now (ends .exit)) r ⌝ }
-{
-    Moved { answer: CallAnswer::Finished, numbers: m, course: c }
+    let numbers = place.numbers;
+    let course = place.course;
+    Ran {
+        numbers,
+        course,
+        refusals: place.refusals,
+        answer,
+    }
 }
 
 // A log of any bytes, run on a job in place.
-pub fn run(first: &[u16; 1024], second: &[u16; 1024], pending: &mut [u8; 1024], next: &mut [u16; 1024], ends: &mut [u16; 256], m: Numbers, c: Course, log: &[u8]) -> Ran
+pub fn run(
+    first: &[u16; 1024],
+    second: &[u16; 1024],
+    pending: &mut [u8; 1024],
+    next: &mut [u16; 1024],
+    ends: &mut [u16; 256],
+    m: Numbers,
+    c: Course,
+    log: &[u8],
+) -> Ran
     requires { ⌜ ((plan : Plan) × (calls : List Call) × Reached plan calls (now first) (now second) (now pending) (now next) (now ends) m c) ⌝ }
     ensures { λ r. ⌜ Runs (now (log .entry)) (now (first .entry)) (now (second .entry)) (now (pending .entry)) (now (next .entry)) (now (ends .entry)) m c (now (pending .exit)) (now (next .exit)) (now (ends .exit)) r ⌝ }
 {
@@ -158,20 +164,25 @@ pub fn run(first: &[u16; 1024], second: &[u16; 1024], pending: &mut [u8; 1024], 
         let at = place.at;
         match read_entry(log, at) {
             Entry::Grant(g) => {
-                let moved = stub_grant(ends, numbers, course, g);
+                let moved = engine::grant(ends, numbers, course, g);
                 place = counted(moved, refusals, at + 1);
             }
             Entry::Tick(start, count) => {
                 let end = start + count;
-                let moved = stub_tick(first, second, pending, next, ends, numbers, course, &log[start..end]);
+                let moved = engine::tick(
+                    first,
+                    second,
+                    pending,
+                    next,
+                    ends,
+                    numbers,
+                    course,
+                    &log[start..end],
+                );
                 place = counted(moved, refusals, end);
             }
-            Entry::Broken => {
-                return Ran { numbers: numbers, course: course, refusals: refusals, answer: LogAnswer::BrokenEntry };
-            }
-            Entry::End => {
-                return Ran { numbers: numbers, course: course, refusals: refusals, answer: LogAnswer::Whole };
-            }
+            Entry::Broken => return ended(place, LogAnswer::BrokenEntry),
+            Entry::End => return ended(place, LogAnswer::Whole),
         }
     }
 }
