@@ -1,18 +1,18 @@
 -- A grant: what it asks of its parts, and what the arrays and numbers show after it.
 use mathlib.Core.Path.{_≡_, refl, sym, ap, _∙_}
-use mathlib.Core.Bool.{Bool, true, false, cond}
-use mathlib.Core.List.{List, [], _∷_, _++_, map}
-use Prim.Native.Nat.{ℕ, zero, suc, _+_, _-_, _≤_, _<_}
+use mathlib.Core.Bool.{Bool, true, false}
+use mathlib.Core.List.{List, [], _∷_, _++_}
+use Prim.Native.Nat.{ℕ, zero, suc, _≤_, _<_}
 use native.Mathlib.Omega.{arith}
 use native.Mathlib.Nat.{sub-zero}
-use lib.ListN.{length, drop, set, take, replicate}
+use lib.ListN.{length, drop, set}
 use Rattle.model.specs.Tests.{below}
-use Rattle.model.specs.Machine.{Execution, State, grant, kept-deques, withdrawn-deques, place-first-task, first-task-placed}
-use Rattle.laws.specs.Invariants.{busy, Bounded}
+use Rattle.model.specs.Machine.{grant, kept-deques, withdrawn-deques, place-first-task, first-task-placed}
+use Rattle.laws.specs.Invariants.{busy}
 use Rattle.laws.proofs.Lists.{busy-non-empty, busy-split}
 use Rattle.deque.specs.declared.Numbers.{Numbers}
 use Rattle.deque.specs.declared.Deque.{Deque}
-use Rattle.deque.specs.View.{walk, put-deque, deque-at, deques-view, muggable-view, view}
+use Rattle.deque.specs.View.{walk, put-deque, deques-view, muggable-view}
 use Rattle.deque.proofs.Views.{workers-shown, muggable-shown, put-places, put-deques, put-muggable}
 use Rattle.allot.specs.Grants.{Joined, joining-withdrawn, Withdrawable, Cleared, numbers-after, Grantable, Granted}
 
@@ -46,8 +46,8 @@ module _ {ends : List ℕ} {m : Numbers} {started : Bool} {g : ℕ} (w : Grantab
         some-workers = some-workers;
         links = w .next;
         room =
-          omega
-          (arith, w .bounded .lines, muggable-shown (w .next) ends (m .head) (m .waiting), busy-withdrawn g (deques-view (w .next) ends (m .workers)));
+            omega
+            (arith, w .bounded .lines, muggable-shown (w .next) ends (m .head) (m .waiting), busy-withdrawn g (deques-view (w .next) ends (m .workers)));
       }
 
   -- a grant, by what it shows of the deques and of the muggable ones
@@ -72,7 +72,7 @@ module _ {ends : List ℕ} {m : Numbers} {started : Bool} {g : ℕ} (w : Grantab
       }
 
   module _ {ends₁ ends₂ : List ℕ} {waiting : ℕ} (j : Joined (m .head) ends (m .waiting) ends₁ waiting (joining-withdrawn ends g (m .workers)))
-    (c : Cleared ends₁ (m .workers) g ends₂) where
+      (c : Cleared ends₁ (m .workers) g ends₂) where
     kept : (next : List ℕ) → deques-view next ends₂ g ≡ kept-deques g (deques-view next ends (m .workers))
     kept next = c .kept next ∙ ap (kept-deques g) (j .workers-stay next (m .workers) some-workers)
 
@@ -90,8 +90,8 @@ module _ {ends : List ℕ} {m : Numbers} {started : Bool} {g : ℕ} (w : Grantab
     granted-nothing s none =
         granted (c .places)
         (λ next.
-          let empty = no-workers next ends₂ g none in
-          rw (s, sym (kept next), empty) refl)
+        let empty = no-workers next ends₂ g none in
+        rw (s, sym (kept next), empty) refl)
         ring
 
     -- "The first grant above 0 puts piece 0 in worker 0's line."
@@ -100,8 +100,8 @@ module _ {ends : List ℕ} {m : Numbers} {started : Bool} {g : ℕ} (w : Grantab
     granted-first s some =
         granted (put-places [] ends₂ (c .places) 0 (omega arith) first-task)
         (λ next.
-          rw s
-          (put-deques next ends₂ (c .places) 0 (omega arith) first-task g (omega arith) (w .at-most)
-          ∙ rw (kept next)
-            (first-placed g (deques-view next ends (m .workers)) (omega arith) (no-workers next ends (m .workers) (w .unstarted s)))))
+        rw s
+        (put-deques next ends₂ (c .places) 0 (omega arith) first-task g (omega arith) (w .at-most)
+        ∙ rw (kept next)
+        (first-placed g (deques-view next ends (m .workers)) (omega arith) (no-workers next ends (m .workers) (w .unstarted s)))))
         (λ next. put-muggable next ends₂ (c .places) 0 (omega arith) first-task (omega arith) (m .head) waiting ∙ ring next)

@@ -1,18 +1,18 @@
 -- New workers' deques are emptied one after the other.
 use mathlib.Core.Path.{_≡_, refl, sym, ap, _∙_}
 use mathlib.Core.Bool.{Bool, true, false}
-use mathlib.Core.List.{List, [], _∷_, _++_, map, append-nil, append-assoc}
-use Prim.Native.Nat.{ℕ, zero, suc, _+_, _-_, _≤_, _<_}
+use mathlib.Core.List.{List, [], _++_, map, append-nil, append-assoc}
+use Prim.Native.Nat.{ℕ, suc, _+_, _-_, _≤_, _<_}
 use native.Mathlib.Omega.{arith}
 use native.Mathlib.Numerals.{add-one}
 use lib.Dec.{leb}
-use lib.ListN.{length, getD, take, replicate, replicate-append-replicate}
+use lib.ListN.{length, take, replicate, replicate-append-replicate}
 use lib.Seq.{take-all, length-take-le, getD-take, ext-getD}
 use borrow.Author.Tests.{leb-true, leb-false}
 use Rattle.model.specs.Tests.{below}
 use Rattle.model.specs.Machine.{kept-deques}
 use Rattle.deque.specs.declared.Deque.{Deque}
-use Rattle.deque.specs.View.{walk, put-deque, tasks-of, deque-at, deques-view, muggable-view}
+use Rattle.deque.specs.View.{walk, put-deque, deque-at, deques-view, muggable-view}
 use Rattle.deque.proofs.Tables.{table-length, table-at, table-same}
 use Rattle.deque.proofs.Views.{workers-shown, put-places, put-here, put-elsewhere, put-muggable}
 use Rattle.allot.specs.Grants.{Cleared}
@@ -52,8 +52,8 @@ take-view next ends k n h =
     let size : length (take k (map f (below n))) ≡ k = length-take-le k (map f (below n)) few in
     ext-getD [] (take k (map f (below n))) (map f (below k)) (size ∙ sym (table-length f k))
     (λ i l.
-      let below-k : i < k = rw size at l in
-      getD-take k (map f (below n)) i [] below-k ∙ table-at f n i [] (omega arith) ∙ sym (table-at f k i [] below-k))
+    let below-k : i < k = rw size at l in
+    getD-take k (map f (below n)) i [] below-k ∙ table-at f n i [] (omega arith) ∙ sym (table-at f k i [] below-k))
 
 module _ {ends₀ : List ℕ} {workers g : ℕ} {ends : List ℕ} {worker : ℕ} (at : Clearing ends₀ workers g ends worker) (few : g ≤ 64) where
   pub clearing-more : worker < g → Clearing ends₀ workers g (put-deque ends worker no-deque) (worker + 1)
@@ -65,13 +65,13 @@ module _ {ends₀ : List ℕ} {workers g : ℕ} {ends : List ℕ} {worker : ℕ}
         up-to = λ h. omega arith;
         only-new = λ h. omega (arith, at .only-new h);
         emptied = λ next.
-          let past : map (deque-at next (put-deque ends worker no-deque)) (below worker) ≡ deques-view next ends worker =
-              table-same (deque-at next ends) (deque-at next (put-deque ends worker no-deque)) worker
-              (λ i l. put-elsewhere next ends (at .places) worker (omega arith) no-deque i (omega arith) (λ e. omega arith)) in
-          let more : suc worker - workers ≡ (worker - workers) + 1 = omega (arith, at .from) in
-          rw add-one
-          (table-more (deque-at next (put-deque ends worker no-deque)) worker
-          ∙ rw (put-here next ends (at .places) worker (omega arith) no-deque, past, at .emptied next, append-assoc, more)
+            let past : map (deque-at next (put-deque ends worker no-deque)) (below worker) ≡ deques-view next ends worker =
+            table-same (deque-at next ends) (deque-at next (put-deque ends worker no-deque)) worker
+            (λ i l. put-elsewhere next ends (at .places) worker (omega arith) no-deque i (omega arith) (λ e. omega arith)) in
+            let more : suc worker - workers ≡ (worker - workers) + 1 = omega (arith, at .from) in
+            rw add-one
+            (table-more (deque-at next (put-deque ends worker no-deque)) worker
+            ∙ rw (put-here next ends (at .places) worker (omega arith) no-deque, past, at .emptied next, append-assoc, more)
             (ap (λ (l : List (List ℕ)). deques-view next ends₀ workers ++ l) (replicate-append-replicate (worker - workers) 1 [])));
         ring-stays = λ next head waiting. put-muggable next ends (at .places) worker (omega arith) no-deque (omega arith) head waiting ∙ at .ring-stays next head waiting;
       }
@@ -100,7 +100,7 @@ module _ {ends₀ : List ℕ} {workers g : ℕ} {ends : List ℕ} {worker : ℕ}
           let none : workers - workers ≡ 0 = omega arith in
           let none-new : g - workers ≡ 0 = omega arith in
           let same : deques-view next ends workers ≡ deques-view next ends₀ workers ++ replicate (workers - workers) [] =
-              rw here at (at .emptied next) in
+          rw here at (at .emptied next) in
           let same′ : deques-view next ends workers ≡ deques-view next ends₀ workers = rw (none, append-nil) at same in
           rw (workers-shown next ends₀ workers, none-new, append-nil)
           (sym (take-view next ends g workers (omega arith)) ∙ ap (take g) same′)

@@ -3,3 +3,4 @@ pub mod Ring
 pub mod Withdrawals
 pub mod Clears
 pub mod Allotments
+pub mod Soundness

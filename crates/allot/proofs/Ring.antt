@@ -1,14 +1,14 @@
 -- A worker's deque joins the ring's end: the two ways out of `join`.
 use mathlib.Core.Path.{_≡_, refl, sym, ap, _∙_}
-use mathlib.Core.Bool.{Bool, true, false, cond, not}
+use mathlib.Core.Bool.{not}
 use mathlib.Core.List.{List, [], _∷_, _++_, map, append-nil}
-use Prim.Native.Nat.{ℕ, zero, suc, _+_, _%_, _≤_, _<_}
+use Prim.Native.Nat.{ℕ, suc, _+_, _≤_, _<_}
 use native.Mathlib.Omega.{arith}
 use native.Mathlib.Numerals.{add-one}
-use lib.ListN.{length, getD}
+use lib.ListN.{length}
 use Rattle.model.specs.Tests.{below, keep, is-empty}
 use Rattle.deque.specs.declared.Deque.{Deque}
-use Rattle.deque.specs.View.{size-at, ends-at, put-deque, tasks-of, deque-at, deques-view, ring-place, muggable-view}
+use Rattle.deque.specs.View.{ends-at, put-deque, tasks-of, deque-at, deques-view, ring-place, muggable-view}
 use Rattle.deque.proofs.Tables.{table-same}
 use Rattle.deque.proofs.Views.{deque-at-is, deque-length, put-places, put-here, put-elsewhere}
 use Rattle.allot.specs.Grants.{Joined, joining-deque, Joinable}
@@ -54,7 +54,7 @@ module _ (next ends : List ℕ) (places : length ends ≡ 256) (head waiting : �
       let after = put-deque ends (ring-place head waiting) d in
       table-more (λ i. deque-at next after (ring-place head i)) waiting
       ∙ rw (put-here next ends places (ring-place head waiting) (omega arith) d)
-        (ap (λ (l : List (List ℕ)). l ++ (tasks-of next d ∷ [])) put-past)
+      (ap (λ (l : List (List ℕ)). l ++ (tasks-of next d ∷ [])) put-past)
 
 -- a store in the ring leaves the workers' deques as they were
 pub put-in-ring : (next ends : List ℕ) → length ends ≡ 256 → (place : ℕ) → 64 ≤ place → place < 128 → (d : Deque) → (k : ℕ) → k ≤ 64 →
@@ -73,7 +73,7 @@ module _ {ends : List ℕ} {head waiting worker : ℕ} (j : Joinable ends head w
       record {
         places = j .places;
         at-end = λ next.
-          rw (none-kept (deque-at next ends worker) (deque-length next ends worker ∙ empty), append-nil);
+            rw (none-kept (deque-at next ends worker) (deque-length next ends worker ∙ empty), append-nil);
         workers-stay = λ next k few. refl;
       }
 
@@ -84,7 +84,7 @@ module _ {ends : List ℕ} {head waiting worker : ℕ} (j : Joinable ends head w
       record {
         places = put-places [] ends (j .places) (ring-place head waiting) (omega arith) (ends-at ends worker);
         at-end = λ next.
-          rw (one-kept (deque-at next ends worker) (λ e. filled (sym (deque-length next ends worker) ∙ e)), add-one, deque-at-is next ends worker)
-          (put-at-end next ends (j .places) head waiting (j .room filled) (ends-at ends worker));
+            rw (one-kept (deque-at next ends worker) (λ e. filled (sym (deque-length next ends worker) ∙ e)), add-one, deque-at-is next ends worker)
+            (put-at-end next ends (j .places) head waiting (j .room filled) (ends-at ends worker));
         workers-stay = λ next k few. put-in-ring next ends (j .places) (ring-place head waiting) (omega arith) (omega arith) (ends-at ends worker) k few;
       }

@@ -2,14 +2,14 @@
 use mathlib.Core.Path.{_≡_, refl, sym, ap, _∙_}
 use mathlib.Core.Bool.{Bool, true, false, cond, not}
 use mathlib.Core.List.{List, [], _∷_, _++_, append-nil, append-assoc}
-use Prim.Native.Nat.{ℕ, zero, suc, _+_, _-_, _≤_, _<_}
+use Prim.Native.Nat.{ℕ, suc, _+_, _≤_, _<_}
 use native.Mathlib.Omega.{arith}
 use native.Mathlib.Numerals.{add-one}
 use lib.ListN.{length, getD, drop, length-append, drop-of-length-le}
 use lib.Seq.{drop-cons}
 use Rattle.model.specs.Tests.{keep, is-empty}
 use Rattle.model.specs.Machine.{withdrawn-deques}
-use Rattle.deque.specs.View.{size-at, deque-at, deques-view, muggable-view}
+use Rattle.deque.specs.View.{deque-at, deques-view, muggable-view}
 use Rattle.deque.proofs.Views.{deque-length, worker-at, workers-shown, muggable-shown}
 use Rattle.allot.specs.Grants.{Joined, joining-deque, Joinable, joining-withdrawn, Withdrawable}
 use Rattle.allot.proofs.Ring.{one-kept}
@@ -47,15 +47,15 @@ pub withdrawing-none : {ends : List ℕ} {head waiting g workers : ℕ} → With
 withdrawing-none w = record { places = w .places; all = λ next. refl; workers-stay = λ next k few. refl }
 
 module _ {ends₀ : List ℕ} {head waiting₀ g workers : ℕ} (w : Withdrawable ends₀ head waiting₀ g workers)
-  {ends : List ℕ} {waiting worker : ℕ} (at : Withdrawing ends₀ head waiting₀ g workers ends waiting worker) where
+    {ends : List ℕ} {waiting worker : ℕ} (at : Withdrawing ends₀ head waiting₀ g workers ends waiting worker) where
   module _ (inside : worker < workers) where
     -- what the next worker adds
     first : (next : List ℕ) →
         joining-withdrawn ends₀ worker workers next ≡ joining-deque ends worker next ++ joining-withdrawn ends₀ (suc worker) workers next
     first next =
         let here : getD (deques-view next ends₀ workers) worker [] ≡ deque-at next ends worker =
-            ap (λ (ds : List (List ℕ)). getD ds worker []) (sym (at .workers-stay next workers (w .some-workers)))
-            ∙ worker-at next ends workers worker inside in
+        ap (λ (ds : List (List ℕ)). getD ds worker []) (sym (at .workers-stay next workers (w .some-workers)))
+        ∙ worker-at next ends workers worker inside in
         first-withdrawn worker (deques-view next ends₀ workers) (rw (workers-shown next ends₀ workers) inside) ∙ rw here
 
     -- so many wait, and so many have yet to join
@@ -76,10 +76,10 @@ module _ {ends₀ : List ℕ} {head waiting₀ g workers : ℕ} (w : Withdrawabl
           a-worker = omega (arith, w .some-workers);
           few = omega (arith, total);
           room = λ filled.
-            let one = ap length (one-kept (deque-at next ends worker) (λ e. filled (sym (deque-length next ends worker) ∙ e))) in
-            let parts = ap length (first next) in
-            let sum = length-append (joining-deque ends worker next) (joining-withdrawn ends₀ (suc worker) workers next) in
-            omega (arith, total);
+              let one = ap length (one-kept (deque-at next ends worker) (λ e. filled (sym (deque-length next ends worker) ∙ e))) in
+              let parts = ap length (first next) in
+              let sum = length-append (joining-deque ends worker next) (joining-withdrawn ends₀ (suc worker) workers next) in
+              omega (arith, total);
         }
 
     pub withdrawing-more : {ends′ : List ℕ} {waiting′ : ℕ} → Joined head ends waiting ends′ waiting′ (joining-deque ends worker) →
@@ -88,8 +88,8 @@ module _ {ends₀ : List ℕ} {head waiting₀ g workers : ℕ} (w : Withdrawabl
         record {
           places = j .places;
           all = λ next.
-            rw (add-one, j .at-end next, append-assoc)
-            (rw (sym (first next)) (at .all next));
+              rw (add-one, j .at-end next, append-assoc)
+              (rw (sym (first next)) (at .all next));
           workers-stay = λ next k few. j .workers-stay next k few ∙ at .workers-stay next k few;
         }
 
@@ -98,7 +98,7 @@ module _ {ends₀ : List ℕ} {head waiting₀ g workers : ℕ} (w : Withdrawabl
       record {
         places = at .places;
         at-end = λ next.
-          let none = none-withdrawn worker (deques-view next ends₀ workers) (rw (workers-shown next ends₀ workers) past) in
-          sym (append-nil (muggable-view next ends head waiting)) ∙ (rw none at (at .all next));
+            let none = none-withdrawn worker (deques-view next ends₀ workers) (rw (workers-shown next ends₀ workers) past) in
+            sym (append-nil (muggable-view next ends head waiting)) ∙ (rw none at (at .all next));
         workers-stay = at .workers-stay;
       }

@@ -1,6 +1,6 @@
 -- What the functions of this crate ask and promise: a grant, over the arrays' elements and the numbers of a job.
 use mathlib.Core.Path.{_≡_}
-use mathlib.Core.Bool.{Bool, true, false, not}
+use mathlib.Core.Bool.{Bool, false, not}
 use mathlib.Core.List.{List, [], _∷_, _++_}
 use Prim.Native.Nat.{ℕ, _+_, _≤_, _<_}
 use lib.ListN.{length, getD}
@@ -40,7 +40,7 @@ pub record Withdrawable (ends : List ℕ) (head waiting g workers : ℕ) : Type 
   pub head-in-ring : head < 64
   pub some-workers : workers ≤ 64
   pub links : List ℕ
-  pub room : waiting + length (joining-withdrawn ends g workers links) ≤ 64
+  pub room : waiting + length (withdrawn-deques g (deques-view links ends workers)) ≤ 64
 
 -- ---- new workers' empty deques
 

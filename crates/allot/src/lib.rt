@@ -3,7 +3,6 @@ ghost use mathlib.Core.Path.{_≡_};
 ghost use Prim.Native.Nat.{_≤_};
 ghost use lib.ListN.{length};
 ghost use Rattle.allot.specs.Grants.{Joined, joining-deque, Joinable, joining-withdrawn, Withdrawable, Cleared, numbers-after, Grantable, Granted};
-
 use deque::Deque;
 use deque::Numbers;
 

@@ -70,21 +70,21 @@ module _ (next ends : List ℕ) (places : length ends ≡ 256) (p : ℕ) (here :
   unfolding deque-at
   put-here =
       let front : getD (put-deque ends p d) p 0 ≡ d .front =
-          getD-set-other (set ends p (d .front)) (size-at p) p (d .size) 0 (λ e. omega arith)
-          ∙ getD-set-same ends p (d .front) 0 (omega arith) in
+      getD-set-other (set ends p (d .front)) (size-at p) p (d .size) 0 (λ e. omega arith)
+      ∙ getD-set-same ends p (d .front) 0 (omega arith) in
       let size : getD (put-deque ends p d) (size-at p) 0 ≡ d .size =
-          getD-set-same (set ends p (d .front)) (size-at p) (d .size) 0 (rw length-set (omega arith)) in
+      getD-set-same (set ends p (d .front)) (size-at p) (d .size) 0 (rw length-set (omega arith)) in
       rw (front, size)
 
   pub put-elsewhere : (q : ℕ) → q < 128 → (q ≡ p → ⊥) → deque-at next (put-deque ends p d) q ≡ deque-at next ends q
   unfolding deque-at
   put-elsewhere q l ne =
       let front : getD (put-deque ends p d) q 0 ≡ getD ends q 0 =
-          getD-set-other (set ends p (d .front)) (size-at p) q (d .size) 0 (λ e. omega arith)
-          ∙ getD-set-other ends p q (d .front) 0 ne in
+      getD-set-other (set ends p (d .front)) (size-at p) q (d .size) 0 (λ e. omega arith)
+      ∙ getD-set-other ends p q (d .front) 0 ne in
       let size : getD (put-deque ends p d) (size-at q) 0 ≡ getD ends (size-at q) 0 =
-          getD-set-other (set ends p (d .front)) (size-at p) (size-at q) (d .size) 0 (λ e. ne (omega arith))
-          ∙ getD-set-other ends p (size-at q) (d .front) 0 (λ e. omega arith) in
+      getD-set-other (set ends p (d .front)) (size-at p) (size-at q) (d .size) 0 (λ e. ne (omega arith))
+      ∙ getD-set-other ends p (size-at q) (d .front) 0 (λ e. omega arith) in
       rw (front, size)
 
   pub put-deques : (k : ℕ) → p < k → k ≤ 64 → deques-view next (put-deque ends p d) k ≡ set (deques-view next ends k) p (tasks-of next d)
@@ -123,9 +123,11 @@ unfolding muggable-view
 ring-tail next ends head head′ waiting inside e =
     let oldest : ring-place head 0 ≡ 64 + head = omega arith in
     table-tail (λ i. deque-at next ends (ring-place head i)) waiting
-    ∙ rw (oldest,
+    ∙ rw (
+      oldest,
       table-same (λ i. deque-at next ends (ring-place head′ i)) (λ i. deque-at next ends (ring-place head (suc i))) waiting
-      (λ i l. ap (deque-at next ends) (omega arith)))
+          (λ i l. ap (deque-at next ends) (omega arith)),
+    )
 
 -- ---- numbers counted down
 

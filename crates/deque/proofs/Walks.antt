@@ -34,6 +34,12 @@ unfolding walk
 length-walk next front zero = refl
 length-walk next front (suc size) = ap suc (length-walk next (getD next front 0) size)
 
+-- a deque's first task stands before the walk from its link
+pub walk-front : (next : List ℕ) (front size : ℕ) → 1 ≤ size → walk next front size ≡ front ∷ walk next (getD next front 0) (size - 1)
+unfolding walk
+walk-front next front zero h = absurd (omega arith)
+walk-front next front (suc size) h = let less : suc size - 1 ≡ size = omega arith in rw less
+
 -- a store at a task that does not stand in the deque leaves it as it was
 pub walk-set : (next : List ℕ) (t v front size : ℕ) → occurrences t (walk next front size) ≡ 0 →
     walk (set next t v) front size ≡ walk next front size

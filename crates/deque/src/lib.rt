@@ -9,7 +9,9 @@ ghost use Rattle.deque.specs.Steps.{link-after, Reachable, Releasable, R
 
 // Three counts, and no total of one kind takes a cycle of another: each has a type of its own.
 pub struct WorkCycles(pub u64);
+
 pub struct MugCycles(pub u64);
+
 pub struct StealCycles(pub u64);
 
 // The numbers of an execution, beside its arrays.
@@ -100,7 +102,13 @@ pub fn release(pending: &mut [u8; 1024], next: &mut [u16; 1024], task: u16, dequ
 
 // A task with the successor fields `one` and `two` was worked: of the two tasks that became ready, the second goes to the front, then the
 // first before it.
-pub fn release_successors(pending: &mut [u8; 1024], next: &mut [u16; 1024], one: u16, two: u16, deque: Deque) -> Deque
+pub fn release_successors(
+    pending: &mut [u8; 1024],
+    next: &mut [u16; 1024],
+    one: u16,
+    two: u16,
+    deque: Deque,
+) -> Deque
     requires { ⌜ AllReleasable (now pending) (now next) one two deque ⌝ }
     ensures { λ r. ⌜ AllReleased (now (pending .entry)) (now (next .entry)) one two deque (now (pending .exit)) (now (next .exit)) r ⌝ }
 {

@@ -27,6 +27,7 @@ use Rattle.engine.specs.Asked.{grant-asked}
 use Rattle.engine.specs.Courses.{granted-course}
 use Rattle.engine.specs.Reached.{Reached}
 use Rattle.engine.specs.Moves.{Moves, GrantMoves}
+use Rattle.engine.proofs.Answers.{IsRefusal}
 use Rattle.engine.proofs.Asking.{grant-asking}
 use Rattle.engine.proofs.Known.{known-arranged, known-measured}
 use Rattle.engine.proofs.Moving.{moved-to, not-both, one-call-more, refused-moves, unchanged}
@@ -70,7 +71,7 @@ module _ {plan : Plan} {calls : List Call} {first second pending next ends : Lis
         (ap (λ (e : Execution). opened-state e (c .started) (c .desire) (c .begun) g)
         (granted .shown pending next (state-view pending next ends m c) refl refl))
 
-    pub granted-moves : Moves (grants g) first second pending next ends m c pending next ends′ (moved-to Accepted m′ (granted-course c g))
+    granted-moves : Moves (grants g) first second pending next ends m c pending next ends′ (moved-to Accepted m′ (granted-course c g))
     granted-moves =
         record {
           answered = sym grant-is-accepted;
@@ -84,3 +85,26 @@ module _ {plan : Plan} {calls : List Call} {first second pending next ends : Lis
                 head-in-ring = granted .head-in-ring;
               });
         }
+
+-- ---- what the function promises
+
+module _ {ends : List ℕ} {m : Numbers} {c : Course} {g : ℕ} (answer : CallAnswer) (asked : answer-of answer ≡ first-no (grant-asked m c g)) where
+  pub refused-grant : IsRefusal answer → GrantMoves g ends m c ends (moved-to answer m c)
+  refused-grant no-grant =
+      record {
+        moves = λ plan calls first second pending next r.
+            refused-moves (grants g) first second pending next ends m c answer (no-grant .number)
+            (asked ∙ sym (grant-asking pending next ends m (r .kept .done-right) c g))
+            (no-grant .told);
+        refusal = λ n h pending next. unchanged answer;
+      }
+
+  pub accepted-grant : answer ≡ Accepted → {ends′ : List ℕ} {m′ : Numbers} → Granted ends m (c .started) g ends′ m′ →
+      GrantMoves g ends m c ends′ (moved-to answer m′ (granted-course c g))
+  accepted-grant is-accepted granted =
+      let no-refusal : accepted ≡ first-no (grant-asked m c g) = rw is-accepted at asked in
+      rw is-accepted
+      (record {
+        moves = λ plan calls first second pending next r. granted-moves g r (sym no-refusal) granted;
+        refusal = λ n h. absurd (not-both n refl h);
+      })

@@ -24,16 +24,19 @@ use Rattle.deque.specs.Sound.{Sizes, Kept, Sound, Room, Within}
 use Rattle.deque.proofs.Views.{workers-shown}
 use Rattle.turn.specs.Turns.{count-limit, TickTurn, Ticked}
 use Rattle.engine.specs.declared.Course.{Course}
+use Rattle.engine.specs.declared.CallAnswer.{CallAnswer}
 use Rattle.engine.specs.declared.CallAnswer.the-variants.{Accepted}
+use Rattle.engine.specs.Answers.{answer-of}
 use Rattle.engine.specs.View.{quantum-view, plan-view, state-view}
 use Rattle.engine.specs.Asked.{tick-asked}
 use Rattle.engine.specs.Courses.{counted, quantum-ended, Countable, CourseTicked}
 use Rattle.engine.specs.Reached.{Reached}
-use Rattle.engine.specs.Moves.{Moves}
+use Rattle.engine.specs.Moves.{Moves, TickMoves}
+use Rattle.engine.proofs.Answers.{IsRefusal}
 use Rattle.engine.proofs.Asking.{finished-shown, tick-asking}
 use Rattle.engine.proofs.Graphs.{same-cycles, bare-sound, bare-placed}
 use Rattle.engine.proofs.Known.{known-sound, known-bounds, known-arranged, known-measured, known-numbers, known-power, few-tasks}
-use Rattle.engine.proofs.Moving.{moved-to, one-call-more}
+use Rattle.engine.proofs.Moving.{moved-to, not-both, one-call-more, refused-moves, unchanged}
 
 -- ---- the numbers beside the execution
 
@@ -110,7 +113,7 @@ module _ (m : Numbers) (c : Course) (is-open : c .«is_open» ≡ true) where
               ne-eqb (m .done) (m .tasks) undone,
               eq-eqb (suc (c .ticks)) (c .«quantum_length») (sym (add-one (c .ticks)) ∙ last),
               workers-shown,
-              after .next (plan-view first second (m .tasks) c) refl (record { at-utilization = refl; at-length = refl })
+              after .next (plan-view first second (m .tasks) c) refl (record { at-utilization = refl; at-length = refl }),
             )
             refl;
       }
@@ -225,7 +228,7 @@ module _ {plan : Plan} {calls : List Call} {first second pending next ends : Lis
         ∙ (ap (λ (n : ℕ). quantum-ended (plan-view first second n c) (counted (view pending′ next′ ends′ m′) c)) same-tasks
         ∙ ap (quantum-ended shown-plan) counted-is-ticked))
 
-    pub ticked-moves : Moves (ticks choices) first second pending next ends m c pending′ next′ ends′ (moved-to Accepted m′ c′)
+    ticked-moves : Moves (ticks choices) first second pending next ends m c pending′ next′ ends′ (moved-to Accepted m′ c′)
     ticked-moves =
         record {
           answered = sym tick-is-accepted;
@@ -235,3 +238,52 @@ module _ {plan : Plan} {calls : List Call} {first second pending next ends : Lis
               (ended .same-plan first second (m′ .tasks) ∙ ap (λ (n : ℕ). plan-view first second n c) same-tasks)
               sizes kept;
         }
+
+-- ---- what the function promises
+
+-- with no worker, and so no choice, nothing moves
+no-cycles : (plan : Plan) (choices : List ℕ) (e : Execution) → length choices ≡ 0 → e ≡ cycles plan 0 choices e
+unfolding cycles
+no-cycles plan [] e none = refl
+no-cycles plan (choice ∷ choices) e none = absurd (omega arith)
+
+module _ {plan : Plan} {calls : List Call} {first second pending next ends : List ℕ} {m : Numbers} {c : Course} (choices : List ℕ) (answer : CallAnswer)
+    (r : Reached plan calls first second pending next ends m c) (asked : answer-of answer ≡ first-no (tick-asked m c choices)) where
+  pub refused-tick : IsRefusal answer → TickMoves choices first second pending next ends m c pending next ends (moved-to answer m c)
+  refused-tick no-tick =
+      record {
+        moves =
+            refused-moves (ticks choices) first second pending next ends m c answer (no-tick .number)
+            (asked ∙ sym (tick-asking pending next ends m (r .kept .done-right) c choices))
+            (no-tick .told);
+        refusal = λ n h. unchanged answer;
+      }
+
+  module _ (is-accepted : answer ≡ Accepted) where
+    no-refusal : first-no (tick-asked m c choices) ≡ accepted
+    no-refusal = sym (rw is-accepted at asked)
+
+    -- some workers took their cycles
+    pub worked-tick : {pending′ next′ ends′ : List ℕ} {m′ : Numbers} {c′ : Course} →
+        Ticked first second pending next ends m choices pending′ next′ ends′ m′ → CourseTicked m′ c c′ →
+        TickMoves choices first second pending next ends m c pending′ next′ ends′ (moved-to answer m′ c′)
+    worked-tick done ended =
+        rw is-accepted
+        (record {
+          moves =
+              ticked-moves choices r no-refusal (done .shows) (done .within .same-tasks) (done .sound .sizes) (done .sound .kept) ended;
+          refusal = λ n h. absurd (not-both n refl h);
+        })
+
+    -- no worker is granted
+    pub idle-tick : {c′ : Course} → m .workers ≡ 0 → CourseTicked m c c′ →
+        TickMoves choices first second pending next ends m c pending next ends (moved-to answer m c′)
+    idle-tick nobody ended =
+        rw is-accepted
+        (record {
+          moves =
+              ticked-moves choices r no-refusal
+              (no-cycles (graph first second (m .tasks)) choices (view pending next ends m) (one-each choices r no-refusal ∙ nobody))
+              refl (r .sizes) (r .kept) ended;
+          refusal = λ n h. absurd (not-both n refl h);
+        })

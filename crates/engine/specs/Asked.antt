@@ -9,11 +9,14 @@ use Rattle.model.specs.Questions.{Question, ask}
 use Rattle.deque.specs.declared.Numbers.{Numbers}
 use Rattle.engine.specs.declared.Course.{Course}
 
+-- not all tasks are worked
+abbrev pub unfinished : Numbers → Bool
+unfinished m = not (eqb (m .done) (m .tasks))
+
 -- 11 to 14
 unfoldable pub grant-asked : Numbers → Course → ℕ → List Question
 grant-asked m c g =
-    ask (not (eqb (m .done) (m .tasks))) 11
-    ∷ ask (not (c .«is_open»)) 12
+    ask (unfinished m) 11 ∷ ask (not (c .«is_open»)) 12
     ∷ ask (ltb (c .begun) 65535) 13
     ∷ ask (leb g (c .desire)) 14
     ∷ []
@@ -25,8 +28,7 @@ choices-below choices workers = every (λ choice. ltb choice workers) choices
 -- 11 and 15 to 17
 unfoldable pub tick-asked : Numbers → Course → List ℕ → List Question
 tick-asked m c choices =
-    ask (not (eqb (m .done) (m .tasks))) 11
-    ∷ ask (c .«is_open») 15
+    ask (unfinished m) 11 ∷ ask (c .«is_open») 15
     ∷ ask (eqb (length choices) (m .workers)) 16
     ∷ ask (choices-below choices (m .workers)) 17
     ∷ []

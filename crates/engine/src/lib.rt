@@ -1,8 +1,15 @@
 // The in-place core of a job: the answer to a call and what an accepted one does, over lent arrays. Nothing is copied but a few numbers.
 ghost use mathlib.Core.Path.{_≡_};
+ghost use mathlib.Core.List.{List};
+ghost use Prim.Native.Nat.{ℕ, _<_};
 ghost use Rattle.model.specs.Questions.{first-no};
+ghost use Rattle.model.specs.Plan.{Plan};
+ghost use Rattle.model.specs.Machine.{Call};
 ghost use Rattle.engine.specs.Answers.{answer-of};
 ghost use Rattle.engine.specs.Asked.{grant-asked, tick-asked, choices-below};
+ghost use Rattle.engine.specs.Courses.{granted-course, Countable, CourseTicked};
+ghost use Rattle.engine.specs.Reached.{Reached};
+ghost use Rattle.engine.specs.Moves.{GrantMoves, TickMoves};
 use deque::Numbers;
 
 // The plan's numbers, and those that calls move beside the execution.
@@ -86,4 +93,107 @@ fn tick_answer(m: Numbers, c: Course, choices: &[u8]) -> CallAnswer
         return CallAnswer::Accepted;
     }
     CallAnswer::BadChoice
+}
+
+// An accepted grant of g opens a quantum.
+fn open_quantum(c: Course, g: u8) -> Course
+    requires { ⌜ c .begun < 65535 ⌝ }
+    ensures { λ r. ⌜ r ≡ granted-course c g ⌝ }
+{
+    let mut r = c;
+    r.is_open = true;
+    r.ticks = 0;
+    r.begun = c.begun + 1;
+    if g == 0 {
+        return r;
+    }
+    r.started = true;
+    r
+}
+
+// "A grant of g": the answer, and the job after it. Refused, it changes nothing.
+pub fn grant(ends: &mut [u16; 256], m: Numbers, c: Course, g: u8) -> Moved
+    requires { ⌜ ((plan : Plan) × (calls : List Call) × (first : List ℕ) × (second : List ℕ) × (pending : List ℕ) × (next : List ℕ) × Reached plan calls first second pending next (now ends) m c) ⌝ }
+    ensures { λ r. ⌜ GrantMoves g (now (ends .entry)) m c (now (ends .exit)) r ⌝ }
+{
+    let answer = grant_answer(m, c, g);
+    let CallAnswer::Accepted = answer else {
+        return Moved {
+            answer: answer,
+            numbers: m,
+            course: c,
+        };
+    };
+    let numbers = allot::allot(ends, m, c.started, g);
+    let course = open_quantum(c, g);
+    Moved {
+        answer: answer,
+        numbers: numbers,
+        course: course,
+    }
+}
+
+// A tick is counted and, where the job is unfinished and the tick was the quantum's last, the quantum is closed. `after` are the numbers
+// after the tick's cycles.
+fn end_tick(after: Numbers, c: Course) -> Course
+    requires { ⌜ Countable after c ⌝ }
+    ensures { λ r. ⌜ CourseTicked after c r ⌝ }
+{
+    let mut r = c;
+    r.ticks = c.ticks + 1;
+    if after.done == after.tasks {
+        return r;
+    }
+    if r.ticks != c.quantum_length {
+        return r;
+    }
+    r.desire = quantum::next_desire(
+        c.responsiveness,
+        c.utilization,
+        c.quantum_length,
+        c.desire,
+        after.workers,
+        after.usage,
+    );
+    r.is_open = false;
+    r
+}
+
+// "A tick": the answer, and the job after it. The workers' cycles, then the end of the tick. Refused, it changes nothing.
+pub fn tick(
+    first: &[u16; 1024],
+    second: &[u16; 1024],
+    pending: &mut [u8; 1024],
+    next: &mut [u16; 1024],
+    ends: &mut [u16; 256],
+    m: Numbers,
+    c: Course,
+    choices: &[u8],
+) -> Moved
+    requires { ⌜ ((plan : Plan) × (calls : List Call) × Reached plan calls (now first) (now second) (now pending) (now next) (now ends) m c) ⌝ }
+    ensures { λ r. ⌜ TickMoves (now (choices .entry)) (now (first .entry)) (now (second .entry)) (now (pending .entry)) (now (next .entry)) (now (ends .entry)) m c (now (pending .exit)) (now (next .exit)) (now (ends .exit)) r ⌝ }
+{
+    let answer = tick_answer(m, c, choices);
+    let CallAnswer::Accepted = answer else {
+        return Moved {
+            answer: answer,
+            numbers: m,
+            course: c,
+        };
+    };
+    if m.workers == 0 {
+        let course = end_tick(m, c);
+        return Moved {
+            answer: answer,
+            numbers: m,
+            course: course,
+        };
+    }
+    let after = turn::cycles(first, second, pending, next, ends, choices, m);
+    let course = end_tick(after, c);
+    Moved {
+        answer: answer,
+        numbers: after,
+        course: course,
+    }
 }

@@ -1,17 +1,16 @@
 -- The table of the six top desires is right, the top desire is the only power of R at which R times it exceeds 64, and what follows for
 -- each way out of the crate's functions.
 use mathlib.Core.Path.{_≡_, refl, sym, ap, _∙_}
-use mathlib.Core.Bool.{Bool, true, false, cond, _&&_}
+use mathlib.Core.Bool.{Bool, true, false, _&&_}
 use mathlib.Core.List.{List, [], _∷_}
-use Prim.Native.Nat.{ℕ, zero, suc, _+_, _-_, _*_, _/_, _^_, _≤_, _<_}
+use Prim.Native.Nat.{ℕ, suc, _+_, _-_, _*_, _/_, _≤_, _<_}
 use native.Mathlib.Nat.{pow-suc, pow-le-pow-right, mul-le-mul}
 use native.Mathlib.Omega.{arith}
 use lib.Dec.{leb, ltb, eqb}
 use lib.ListN.{length, getD}
 use borrow.Author.Tests.{ltb-true, leb-true, eqb-true, eq-eqb, ne-eqb, le-leb, lt-leb}
-use Rattle.model.specs.Plan.{Plan}
-use Rattle.model.specs.Machine.{efficient, satisfied, next-desire, raised, lowered, desire-at, most-workers, top-desires}
-use Rattle.quantum.specs.Closing.{TopDesire, Power, Paced, WasEfficient, WasRaised, Closed}
+use Rattle.model.specs.Machine.{efficient, satisfied, next-desire, desire-at, most-workers, top-desires}
+use Rattle.quantum.specs.Closing.{TopDesire, Power, WasEfficient, WasRaised, Closed}
 use Rattle.quantum.proofs.Table.{and-left, and-right, all-right, at-each}
 
 -- ---- the table

@@ -3,3 +3,5 @@ pub mod Executions
 pub mod Mugging
 pub mod Stealing
 pub mod Working
+pub mod Cycling
+pub mod Ticking

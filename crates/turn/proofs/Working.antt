@@ -25,6 +25,7 @@ use Rattle.deque.specs.declared.Numbers.{Numbers}
 use Rattle.deque.specs.View.{walk, tasks-of, size-at, ends-at, put-deque, deque-at, deques-view, ring-place, muggable-view, worked-view, worked-mark, shown, successors-at, successors-view, graph, view}
 use Rattle.deque.specs.Steps.{AllReleasable, AllReleased, each-less, last-awaited}
 use Rattle.deque.specs.Sound.{Sizes, Kept, Sound, awaited, Room}
+use Rattle.deque.proofs.Walks.{walk-front}
 use Rattle.deque.proofs.Tables.{table-set}
 use Rattle.deque.proofs.Awaits.{ready-awaits-none, awaited-less, awaited-at-most}
 use Rattle.deque.proofs.Views.{deque-at-is, deque-length, worker-at, workers-shown, muggable-at, worked-at, flags-shown, tasks-shown, successors-shown, put-places, put-deques, put-muggable, links-deques, links-muggable, less-length, less-at}
@@ -36,12 +37,6 @@ same-kept : (f g : ℕ → Bool) (xs : List ℕ) → ((x : ℕ) → List·Memᴰ
 unfolding keep
 same-kept f g [] h = refl
 same-kept f g (x ∷ xs) h = rw (h x (List·Memᴰ·head refl), same-kept f g xs (λ y m. h y (List·Memᴰ·tail m)))
-
--- a deque's first task stands before the walk from its link
-walk-front : (next : List ℕ) (front size : ℕ) → 1 ≤ size → walk next front size ≡ front ∷ walk next (getD next front 0) (size - 1)
-unfolding walk
-walk-front next front zero h = absurd (omega arith)
-walk-front next front (suc size) h = let less : suc size - 1 ≡ size = omega arith in rw less
 
 -- what stands nowhere in a deque stands nowhere behind its front
 behind : (s x : ℕ) (xs : List ℕ) → occurrences s (x ∷ xs) ≡ 0 → occurrences s xs ≡ 0
@@ -147,7 +142,7 @@ module _ {first second pending next ends : List ℕ} {m : Numbers} {w : ℕ} (tu
     nowhere-muggable i l =
         let none = released-stand-nowhere placed t t-of-plan (front .unworked) s mem .1 in
         let one : occurrences s (getD (muggable-view next ends (m .head) (m .waiting)) i []) ≡ 0 =
-            omega (arith, none, one-deque s (muggable-view next ends (m .head) (m .waiting)) i) in
+        omega (arith, none, one-deque s (muggable-view next ends (m .head) (m .waiting)) i) in
         rw (muggable-at next ends (m .head) (m .waiting) i l) at one
 
     nowhere-behind : occurrences s (tasks-of next rest) ≡ 0
@@ -210,7 +205,7 @@ module _ {first second pending next ends : List ℕ} {m : Numbers} {w : ℕ} (tu
     own-number : getD pending′ t 0 ≡ worked-mark
     own-number =
         let alone : member t (successors-of plan t) ≡ false =
-            not-true-is-false (member t (successors-of plan t)) (λ is. omega (arith, above (sound .planned) t t t-of-plan is)) in
+        not-true-is-false (member t (successors-of plan t)) (λ is. omega (arith, above (sound .planned) t t t-of-plan is)) in
         omega (arith, number-after t, no-member t (successors-of plan t) alone, getD-set-same pending t worked-mark 0 (rw (sound .sizes .numbers) front-inside))
 
     mark-same : (x : ℕ) → (x ≡ t → ⊥) → (b : Bool) → member x (successors-of plan t) ≡ b →
@@ -237,7 +232,7 @@ module _ {first second pending next ends : List ℕ} {m : Numbers} {w : ℕ} (tu
     right-at x l unworked ne true is = number-less x is
     right-at x l unworked ne false is =
         let as-before : awaited plan worked x ≡ awaited plan (set worked t true) x + 0 =
-            awaited-less plan worked t t-of-plan flag (front .unworked) x ∙ rw is in
+        awaited-less plan worked t t-of-plan flag (front .unworked) x ∙ rw is in
         omega (arith, number-same x ne is, sound .kept .pending-right x l unworked, as-before)
 
     kept-after : Kept plan pending′ (after-work m)
@@ -262,8 +257,11 @@ module _ {first second pending next ends : List ℕ} {m : Numbers} {w : ℕ} (tu
     unfolding released
     own-after =
         r .pushed
-        ∙ rw (← fields, own,
-          same-kept (last-awaited (set pending t worked-mark)) (ready plan (set worked t true)) (successors-of plan t) came-ready)
+        ∙ rw (
+          ← fields,
+          own,
+          same-kept (last-awaited (set pending t worked-mark)) (ready plan (set worked t true)) (successors-of plan t) came-ready,
+        )
 
     undisturbed : (p : ℕ) → ((s : ℕ) → List·Memᴰ s (successors-of plan t) → occurrences s (deque-at next ends p) ≡ 0) →
         deque-at next′ ends p ≡ deque-at next ends p

@@ -4,12 +4,11 @@ use deque::MugCycles;
 use deque::Numbers;
 use deque::StealCycles;
 use deque::WorkCycles;
-
 ghost use mathlib.Core.Path.{_≡_};
 ghost use Prim.Native.Nat.{_+_, _≤_, _<_};
 ghost use lib.ListN.{length};
 ghost use Rattle.deque.specs.Sound.{Room};
-ghost use Rattle.turn.specs.Turns.{after-work, after-mug, after-steal, cycle-limit, MugTurn, Mugged, StealTurn, Stolen, WorkTurn, Worked};
+ghost use Rattle.turn.specs.Turns.{after-work, after-mug, after-steal, cycle-limit, MugTurn, Mugged, StealTurn, Stolen, WorkTurn, Worked, ChoiceTurn, Cycled, TickTurn, Ticked};
 
 // The numbers after a work cycle.
 fn after_work(m: Numbers) -> Numbers
@@ -86,7 +85,13 @@ pub fn mug_cycle(ends: &mut [u16; 256], w: usize, m: Numbers) -> Numbers
 }
 
 // A steal cycle: of a deque of two or more tasks the back part becomes the thief's deque; of any other nothing moves.
-pub fn steal_cycle(next: &[u16; 1024], ends: &mut [u16; 256], w: usize, choice: usize, m: Numbers) -> Numbers
+pub fn steal_cycle(
+    next: &[u16; 1024],
+    ends: &mut [u16; 256],
+    w: usize,
+    choice: usize,
+    m: Numbers,
+) -> Numbers
     requires { ⌜ StealTurn (now next) (now ends) m w choice ⌝ }
     ensures { λ r. ⌜ Stolen (now (next .entry)) (now (ends .entry)) m w choice (now (ends .exit)) r ⌝ }
 {
@@ -105,7 +110,14 @@ pub fn steal_cycle(next: &[u16; 1024], ends: &mut [u16; 256], w: usize, choice: 
             size: left,
         },
     );
-    deque::put(ends, w, Deque { front: front, size: taken });
+    deque::put(
+        ends,
+        w,
+        Deque {
+            front: front,
+            size: taken,
+        },
+    );
     after_steal(m, 1)
 }
 
@@ -134,4 +146,54 @@ pub fn work_cycle(
     let after = deque::release_successors(pending, next, one, two, rest);
     deque::put(ends, w, after);
     after_work(m)
+}
+
+// One cycle of the worker `w`: it works if its deque is not empty, else mugs if a muggable deque waits, else steals from `choice`.
+pub fn cycle(
+    first: &[u16; 1024],
+    second: &[u16; 1024],
+    pending: &mut [u8; 1024],
+    next: &mut [u16; 1024],
+    ends: &mut [u16; 256],
+    w: usize,
+    choice: usize,
+    m: Numbers,
+) -> Numbers
+    requires { ⌜ ChoiceTurn (now first) (now second) (now pending) (now next) (now ends) m w choice ⌝ }
+    ensures { λ r. ⌜ Cycled (now (first .entry)) (now (second .entry)) (now (pending .entry)) (now (next .entry)) (now (ends .entry)) m w choice (now (pending .exit)) (now (next .exit)) (now (ends .exit)) r ⌝ }
+{
+    let own = deque::deque_at(ends, w);
+    if own.size > 0 {
+        return work_cycle(first, second, pending, next, ends, w, m);
+    }
+    if m.waiting > 0 {
+        return mug_cycle(ends, w, m);
+    }
+    steal_cycle(next, ends, w, choice, m)
+}
+
+// The cycles of a tick: the workers in number order, one cycle each, with a choice each, until the job is finished.
+pub fn cycles(
+    first: &[u16; 1024],
+    second: &[u16; 1024],
+    pending: &mut [u8; 1024],
+    next: &mut [u16; 1024],
+    ends: &mut [u16; 256],
+    choices: &[u8],
+    m: Numbers,
+) -> Numbers
+    requires { ⌜ TickTurn (now first) (now second) (now pending) (now next) (now ends) m (now choices) ⌝ }
+    ensures { λ r. ⌜ Ticked (now (first .entry)) (now (second .entry)) (now (pending .entry)) (now (next .entry)) (now (ends .entry)) m (now (choices .entry)) (now (pending .exit)) (now (next .exit)) (now (ends .exit)) r ⌝ }
+{
+    let mut after = m;
+    let mut w = 0;
+    while w < choices.len() {
+        if after.done == after.tasks {
+            return after;
+        }
+        let choice = choices[w] as usize;
+        after = cycle(first, second, pending, next, ends, w, choice, after);
+        w += 1;
+    }
+    after
 }

@@ -3,12 +3,6 @@ use borrow.Author.Needs.{needs}
 use Rattle.allot.proofs.Allotments.{withdrawable, granted-later, granted-nothing, granted-first}
 use Rattle.allot.proofs.allot.Statement.{statement}
 use Rattle.allot.proofs.allot.Tie as tie
-use Rattle.allot.proofs.allot.Reads as reads
-use Rattle.allot.proofs.allot.Lts as lts
-use Rattle.allot.proofs.clear.Reads as clear-reads
-use Rattle.allot.proofs.renumbered.Reads as renumbered-reads
-use Rattle.allot.proofs.withdraw.Reads as withdraw-reads
-use Rattle.deque.proofs.put.Reads as put-reads
 
 cast-workers : tie.Need-cast-workers
 cast-workers c = search needs

@@ -1,14 +1,10 @@
 -- `allot::clear` meets its contract. The loop's invariant: the deques from the old workers' number on are empty, and all others as they were.
-use borrow.Author.Needs.{needs}
 use Prim.Native.Nat.{_-_}
 use native.Mathlib.Omega.{arith}
 use denote.Ref.{now}
 use Rattle.allot.proofs.Clears.{Clearing, clearing-none, clearing-more, clearing-done}
 use Rattle.allot.proofs.clear.Statement.{statement}
 use Rattle.allot.proofs.clear.Tie as tie
-use Rattle.allot.proofs.clear.Reads as reads
-use Rattle.allot.proofs.clear.Lts as lts
-use Rattle.deque.proofs.put.Reads as put-reads
 
 abbrev Inv-loop : tie.InvT-loop
 Inv-loop ends₀ workers g worker₀ ends worker = Clearing ends₀ workers g ends worker
@@ -30,7 +26,7 @@ loop-less c = omega arith
 
 loop-again : tie.Need-loop-again Inv-loop μ-loop
 loop-again c =
-    rw (c .put .ensures) 
+    rw (c .put .ensures)
     (clearing-more (c .before .before .before .loop .inv) (c .before .before .before .before .pre .1) (c .before .before .loop-test .taken))
 
 returns : tie.Need-returns Inv-loop μ-loop

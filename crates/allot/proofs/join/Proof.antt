@@ -1,14 +1,10 @@
 -- `allot::join` meets its contract.
 use borrow.Author.Needs.{needs}
-use mathlib.Core.Path.{_≡_, sym, ap, _∙_}
+use mathlib.Core.Path.{sym, ap, _∙_}
 use Rattle.deque.specs.declared.Deque.{Deque}
 use Rattle.allot.proofs.Ring.{join-empty, join-filled}
 use Rattle.allot.proofs.join.Statement.{statement}
 use Rattle.allot.proofs.join.Tie as tie
-use Rattle.allot.proofs.join.Reads as reads
-use Rattle.allot.proofs.join.Lts as lts
-use Rattle.deque.proofs.deque_at.Reads as deque-at-reads
-use Rattle.deque.proofs.put.Reads as put-reads
 
 deque-at-requires : tie.Need-deque-at-requires
 deque-at-requires c κs = search needs

@@ -1,14 +1,9 @@
 -- `allot::withdraw` meets its contract. The loop's invariant: what has joined and what has yet to join is together what is to join.
-use borrow.Author.Needs.{needs}
-use Prim.Native.Nat.{_-_, _≤_}
+use Prim.Native.Nat.{_-_}
 use native.Mathlib.Omega.{arith}
-use Rattle.allot.specs.Grants.{Withdrawable}
 use Rattle.allot.proofs.Withdrawals.{Withdrawing, withdrawing-none, withdrawing-room, withdrawing-more, withdrawing-done}
 use Rattle.allot.proofs.withdraw.Statement.{statement}
 use Rattle.allot.proofs.withdraw.Tie as tie
-use Rattle.allot.proofs.withdraw.Reads as reads
-use Rattle.allot.proofs.withdraw.Lts as lts
-use Rattle.allot.proofs.join.Reads as join-reads
 
 abbrev Inv-loop : tie.InvT-loop
 Inv-loop ends₀ head waiting g workers joined₀ worker₀ ends joined worker =
@@ -30,7 +25,7 @@ loop-less : tie.Need-loop-less Inv-loop μ-loop
 loop-less c = omega arith
 
 loop-again : tie.Need-loop-again Inv-loop μ-loop
-loop-again c = 
+loop-again c =
     withdrawing-more (c .before .before .before .before .pre) (c .before .before .before .loop .inv) (c .before .before .loop-test .taken)
     (c .join .ensures)
 
