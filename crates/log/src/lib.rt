@@ -1,4 +1,5 @@
-// The day log: lent bytes, read entry after entry, and run on a job in place. `specs/Reading.antt` says what is read.
+// The day log: lent bytes, read entry after entry, and run on a job in place. `specs/Reading.antt` says what is read, and
+// `specs/Running.antt` what a run promises.
 ghost use mathlib.Core.Path.{_≡_};
 ghost use Prim.Native.Nat.{ℕ, _+_, _^_, _<_};
 ghost use mathlib.Core.List.{List};
@@ -36,10 +37,10 @@ pub fn entry_at(log: &[u8], at: usize) -> Entry
     }
     let count = (byte - 128) as usize;
     let start = at + 1;
-    if count <= log.len() - start {
-        return Entry::Tick(start, count);
+    if count > log.len() - start {
+        return Entry::Broken;
     }
-    Entry::Broken
+    Entry::Tick(start, count)
 }
 
 // "Entries are read one after the other from the same lent bytes": a log, and a place in it.
@@ -48,6 +49,7 @@ pub struct LogReader<'a> {
     pub at: usize,
 }
 
+// A reader of this log at this place.
 pub fn reader<'a>(log: &'a [u8], at: usize) -> LogReader<'a>
     ensures { λ r. ⌜ (r .log ≡ log .entry) × (r .at ≡ at) ⌝ }
 {
@@ -63,7 +65,7 @@ pub fn next_entry<'a>(r: LogReader<'a>) -> Entry
 
 // The same for a log and a place.
 pub fn read_entry(log: &[u8], at: usize) -> Entry
-    ensures { λ r. ⌜ r ≡ entry-of (now (log .entry)) at ⌝ }
+    ensures { λ e. ⌜ e ≡ entry-of (now (log .entry)) at ⌝ }
 {
     next_entry(reader(log, at))
 }
@@ -76,7 +78,7 @@ pub struct Place {
     pub at: usize,
 }
 
-// The log's own answer, whose number log-answer-of gives.
+// The log's own answer, whose number log-answer-of gives: every entry was whole, or a broken one ended it (18).
 pub enum LogAnswer {
     Whole,
     BrokenEntry,
@@ -137,7 +139,8 @@ fn ended(place: Place, answer: LogAnswer) -> Ran
     }
 }
 
-// A log of any bytes, run on a job in place.
+// A log of any bytes, run on a job in place, entry after entry. A refused call changes nothing, is counted beside the job, and the next entry
+// follows. A broken entry ends the log with the job and the count as the entries before it left them.
 pub fn run(
     first: &[u16; 1024],
     second: &[u16; 1024],

@@ -31,11 +31,11 @@ sub-if3 c = search needs
 
 returns-3 : tie.Need-returns-3
 unfolding entry-of
-returns-3 c = simp (lt-ltb _ _ (c .before .before .before .if1 .left), le-ltb _ _ (c .before .if2 .left), le-leb _ _ (c .if3 .taken))
+returns-3 c = simp (lt-ltb _ _ (c .before .before .before .if1 .left), le-ltb _ _ (c .before .if2 .left), lt-leb _ _ (c .if3 .taken))
 
 returns-4 : tie.Need-returns-4
 unfolding entry-of
-returns-4 c = simp (lt-ltb _ _ (c .before .before .before .if1 .left), le-ltb _ _ (c .before .if2 .left), lt-leb _ _ (c .if3 .left))
+returns-4 c = simp (lt-ltb _ _ (c .before .before .before .if1 .left), le-ltb _ _ (c .before .if2 .left), le-leb _ _ (c .if3 .left))
 
 pub entry-at-spec : {M : Type 1} → statement M
 entry-at-spec =
