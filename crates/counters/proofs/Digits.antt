@@ -1,14 +1,14 @@
 -- Digits put into a buffer from the last to the first: what holds on the way, and that the digits of a number's own count are
 -- its `decimal`. Assumes nothing.
 use mathlib.Core.Path.{_≡_, refl, sym, ap, _∙_}
-use mathlib.Core.List.{List, [], _∷_, _++_, append-assoc}
+use mathlib.Core.List.{List, [], _∷_, _++_}
 use Prim.Native.Nat.{ℕ, zero, suc, _+_, _/_, _%_, _≤_, _<_}
 use native.Mathlib.Nat.{add-zero}
 use native.Mathlib.Numerals.{add-one}
 use native.Mathlib.Omega.{arith}
-use lib.ListN.{length, getD, take, drop, set, length-append, length-set, take-append-drop}
+use lib.ListN.{length, take, drop, set, length-append, length-set, take-append-drop}
 use lib.Seq.{drop-cons, take-take, take-set-le, drop-set-lt, getD-set-same, append-snoc}
-use Rattle.model.specs.Counters.{decimal, decimal-up-to}
+use Rattle.model.specs.Counters.{decimal}
 use Rattle.counters.specs.Put.{put}
 use Rattle.counters.proofs.Decimal.{one-digit, one-long, more-digits, more-long, by-size}
 

@@ -1,8 +1,8 @@
 -- The counters line as a whole: question 20 for both answers, the line's 127 bytes, and the model's buffer after the call.
 -- Assumes nothing.
-use mathlib.Core.Path.{_≡_, refl, sym, ap}
-use mathlib.Core.Bool.{Bool, true, false, cond}
-use mathlib.Core.List.{List, [], _∷_}
+use mathlib.Core.Path.{_≡_, sym, ap}
+use mathlib.Core.Bool.{Bool, cond}
+use mathlib.Core.List.{List, _∷_}
 use Prim.Native.Nat.{ℕ, _^_, _≤_, _<_}
 use native.Mathlib.Omega.{arith}
 use lib.Dec.{lit<}
@@ -15,7 +15,7 @@ use Rattle.model.specs.Counters.{spaced, counters, counters-line, counters-answ
 use Rattle.counters.specs.declared.Status.{Status}
 use Rattle.counters.specs.declared.Status.the-variants.{Fresh, Running, Held, Finished}
 use Rattle.counters.specs.declared.Counters.{Counters}
-use Rattle.counters.specs.Line.{status-number, numbers-of}
+use Rattle.counters.specs.Line.{status-number, after-status, numbers-of}
 use Rattle.counters.proofs.Spaced.{ten-within}
 
 abbrev answer-by : Bool → Answer
@@ -65,27 +65,12 @@ line-within k w =
     ten-within _ _ _ _ _ _ _ _ _ _ (status-small (k .status)) (w .worked) (w .tasks) (w .desire) (w .allotment) (w .work) (w .mug) (w .steal)
     (w .successes) (w .refusals)
 
--- the ten numbers, with the status by its number
-abbrev pub ten : Counters → ℕ → List ℕ
-ten k status =
-    status
-    ∷ k .worked
-    ∷ k .tasks
-    ∷ k .desire
-    ∷ k .allotment
-    ∷ k .work
-    ∷ k .mug
-    ∷ k .steal
-    ∷ k .successes
-    ∷ k .refusals
-    ∷ []
-
 -- the line has room, and once it is written the promises hold
 module _ (k : Counters) (buffer : List ℕ) (status : ℕ) (same : status ≡ status-number (k .status)) (enough : 128 ≤ length buffer) where
-  pub line-room : Wide k → length (spaced (ten k status)) ≤ length buffer
+  pub line-room : Wide k → length (spaced (status ∷ after-status k)) ≤ length buffer
   line-room w = rw same (omega (arith, line-within k w))
 
-  pub line-written : (size : ℕ) (exit : List ℕ) → size ≡ length (spaced (ten k status)) → exit ≡ put-at-start (spaced (ten k status)) buffer
+  pub line-written : (size : ℕ) (exit : List ℕ) → size ≡ length (spaced (status ∷ after-status k)) → exit ≡ put-at-start (spaced (status ∷ after-status k)) buffer
       → Promised buffer (length (spaced (numbers-of k))) (put-at-start (spaced (numbers-of k)) buffer) accepted size exit
   line-written size exit e f = rw (e, f, same) (big-enough buffer _ _ enough)
 

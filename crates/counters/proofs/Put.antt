@@ -1,12 +1,12 @@
 -- Bytes put at a place of a buffer, one piece after the other.
 -- Assumes nothing.
-use mathlib.Core.Path.{_≡_, refl, sym, ap, _∙_}
+use mathlib.Core.Path.{_≡_, sym, ap, _∙_}
 use mathlib.Core.List.{List, [], _∷_, _++_, append-assoc}
-use Prim.Native.Nat.{ℕ, suc, _+_, _≤_, _<_}
+use Prim.Native.Nat.{ℕ, _+_, _≤_, _<_}
 use native.Mathlib.Nat.{zero-add}
 use native.Mathlib.Numerals.{add-one}
 use native.Mathlib.Omega.{arith}
-use lib.ListN.{length, take, drop, set, length-append, length-take, length-drop, length-set, take-append-drop}
+use lib.ListN.{length, take, drop, set, length-append, length-drop}
 use lib.Seq.{take-at, drop-at, drop-drop, length-take-le, set-split}
 use borrow.Author.Tests.{le-leb, lt-leb}
 use Rattle.model.specs.Counters.{put-at-start}
@@ -62,26 +62,22 @@ module _ (at : ℕ) (x b : List ℕ) where
       let too-long = lt-leb (at + length x) (length b) h in
       (rw too-long, rw too-long)
 
--- a piece that has room, and one byte stored after it
-module _ (at : ℕ) (x : List ℕ) (end : ℕ) (b b' : List ℕ) (next : ℕ) (room : at + length (x ++ (end ∷ [])) ≤ length b)
-    (next-is : next ≡ next-if-room at x b) (b'-is : b' ≡ put-if-room at x b) where
-  room-first : at + length x + 1 ≤ length b
-  room-first = omega (arith, length-append x (end ∷ []))
+-- a piece that was put where there is room, with one byte stored after it
+pub record Ended (at : ℕ) (x : List ℕ) (end : ℕ) (b b' : List ℕ) (next : ℕ) : Type 0 where
+  pub inside : next < length b'
+  pub after : next + 1 ≡ at + length (x ++ (end ∷ []))
+  pub bytes : set b' next end ≡ put at (x ++ (end ∷ [])) b
 
-  next-place : next ≡ at + length x
-  next-place = next-is ∙ sym (has-room at x b (omega (arith, room-first)) .0)
-
-  first-put : b' ≡ put at x b
-  first-put = b'-is ∙ sym (has-room at x b (omega (arith, room-first)) .1)
-
-  pub next-within : next < length b'
-  next-within = omega (arith, room-first, next-place, ap length first-put, length-put at x b (omega (arith, room-first)))
-
-  pub next-after : next + 1 ≡ at + length (x ++ (end ∷ []))
-  next-after = omega (arith, next-place, length-append x (end ∷ []))
-
-  pub put-with-end : set b' next end ≡ put at (x ++ (end ∷ [])) b
-  put-with-end =
-      let space : at + length x ≤ length b = omega (arith, room-first) in
-      let inside : at + length x < length (put at x b) = omega (arith, room-first, length-put at x b space) in
-      rw (first-put, next-place) (put-one (at + length x) end (put at x b) inside ∙ put-append at x b space (end ∷ []))
+pub ended : (at : ℕ) (x : List ℕ) (end : ℕ) (b b' : List ℕ) (next : ℕ) → at + length (x ++ (end ∷ [])) ≤ length b
+    → next ≡ next-if-room at x b → b' ≡ put-if-room at x b → Ended at x end b b' next
+ended at x end b b' next room next-is b'-is =
+    let both : at + length x + 1 ≤ length b = omega (arith, length-append x (end ∷ [])) in
+    let space : at + length x ≤ length b = omega arith in
+    let place : next ≡ at + length x = next-is ∙ sym (has-room at x b space .0) in
+    let first : b' ≡ put at x b = b'-is ∙ sym (has-room at x b space .1) in
+    let within : at + length x < length (put at x b) = omega (arith, length-put at x b space) in
+    record {
+      inside = rw (first, place) within;
+      after = omega (arith, length-append x (end ∷ []));
+      bytes = rw (first, place) (put-one (at + length x) end (put at x b) within ∙ put-append at x b space (end ∷ []));
+    }

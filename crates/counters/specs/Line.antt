@@ -15,11 +15,10 @@ status-number Running = 1
 status-number Held = 2
 status-number Finished = 3
 
--- the ten numbers in the order of model's `counters`
-abbrev pub numbers-of : Counters → List ℕ
-numbers-of c =
-    status-number (c .status)
-    ∷ c .worked
+-- the nine numbers after the status, in the order of model's `counters`
+abbrev pub after-status : Counters → List ℕ
+after-status c =
+    c .worked
     ∷ c .tasks
     ∷ c .desire
     ∷ c .allotment
@@ -29,6 +28,10 @@ numbers-of c =
     ∷ c .successes
     ∷ c .refusals
     ∷ []
+
+-- the ten numbers of a line
+abbrev pub numbers-of : Counters → List ℕ
+numbers-of c = status-number (c .status) ∷ after-status c
 
 abbrev pub line-answer : LineAnswer → Answer
 line-answer (Written size) = accepted

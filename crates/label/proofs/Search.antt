@@ -9,8 +9,8 @@ use native.Mathlib.Omega.{arith}
 use lib.Dec.{eqb, ltb, leb·suc-suc}
 use lib.ListN.{length, getD, drop, drop-of-length-le}
 use lib.Seq.{drop-cons}
-use borrow.Author.Tests.{eq-eqb, ne-eqb, lt-ltb, le-ltb, ltb-true, ltb-false}
-use Rattle.model.specs.Questions.{Answer, accepted, refused, first-no}
+use borrow.Author.Tests.{eq-eqb, ne-eqb, lt-ltb, le-ltb}
+use Rattle.model.specs.Questions.{accepted, refused, first-no}
 use Rattle.model.specs.Label.{Stretch, no-stretch, lines-from, lines, label, label-answer}
 
 -- the lines from place i on, where the line that is open there starts at `start`

@@ -1,5 +1,4 @@
 -- Document 01's number and stretch for each answer of `find`.
-use Prim.Native.Nat.{ℕ}
 use Rattle.model.specs.Questions.{Answer, accepted, refused}
 use Rattle.model.specs.Label.{Stretch, no-stretch}
 use Rattle.label.specs.declared.Found.{Found}

@@ -1,7 +1,7 @@
 -- `counters::count_digits` meets its contract. The loop's invariant: the digits counted and those of what is left are the
 -- number's, but for the one that is counted from the start. The measure is what is left. Assumes nothing.
 use mathlib.Core.Path.{_≡_}
-use Prim.Native.Nat.{_+_, _/_}
+use Prim.Native.Nat.{_+_}
 use native.Mathlib.Omega.{arith}
 use lib.ListN.{length}
 use Rattle.model.specs.Counters.{decimal}

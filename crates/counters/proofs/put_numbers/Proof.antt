@@ -1,10 +1,9 @@
 -- `counters::put_numbers` meets its contract. The loop's invariant is `Lined`, the measure the numbers before the last that are
 -- left. Assumes nothing.
-use mathlib.Core.Path.{_≡_, sym, ap, _∙_}
-use Prim.Native.Nat.{ℕ, _+_, _-_}
+use mathlib.Core.Path.{_∙_}
+use Prim.Native.Nat.{_-_}
 use native.Mathlib.Omega.{arith}
 use borrow.Author.Needs.{needs}
-use lib.ListN.{length}
 use Rattle.counters.proofs.Spaced.{Lined, lined-first, more-room, lined-more, lined-until, last-room, lined-size, lined-last}
 use Rattle.counters.proofs.put_numbers.Statement.{statement}
 use Rattle.counters.proofs.put_numbers.Tie as tie
