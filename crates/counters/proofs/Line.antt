@@ -12,10 +12,11 @@ use Rattle.model.specs.Questions.{Answer, accepted, refused, first-no, by-answe
 use Rattle.model.specs.Plan.{Plan}
 use Rattle.model.specs.Machine.{State}
 use Rattle.model.specs.Counters.{spaced, counters, counters-line, counters-answer, put-at-start, buffer-after}
-use Rattle.counters.specs.declared.Status.{Status}
-use Rattle.counters.specs.declared.Status.the-variants.{Fresh, Running, Held, Finished}
+use Rattle.status.specs.declared.Status.{Status}
+use Rattle.status.specs.declared.Status.the-variants.{Fresh, Running, Held, Finished}
 use Rattle.counters.specs.declared.Counters.{Counters}
-use Rattle.counters.specs.Line.{status-number, after-status, numbers-of}
+use Rattle.status.specs.Number.{status-number}
+use Rattle.counters.specs.Line.{after-status, numbers-of}
 use Rattle.counters.proofs.Spaced.{ten-within}
 
 abbrev answer-by : Bool → Answer

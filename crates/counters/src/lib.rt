@@ -2,20 +2,13 @@
 // definitions are model's specs/Counters.antt.
 ghost use mathlib.Core.Path.{_≡_};
 ghost use mathlib.Core.List.{_++_, _∷_, []};
-ghost use Prim.Native.Nat.{_+_, _%_, _≤_, _<_, min};
+ghost use Prim.Native.Nat.{_+_, _%_, _≤_, _<_};
 ghost use lib.ListN.{length};
 ghost use Rattle.model.specs.Questions.{by-answer};
 ghost use Rattle.model.specs.Counters.{decimal, spaced, counters-answer, put-at-start};
-ghost use Rattle.counters.specs.Line.{status-number, numbers-of, line-answer, line-length};
+ghost use Rattle.counters.specs.Line.{numbers-of, line-answer, line-length};
 ghost use Rattle.counters.specs.Put.{put, put-if-room, next-if-room};
-
-// A job's status. specs/Line.antt gives document 01's number for each case: one digit, which u8 does not say.
-pub enum Status {
-    Fresh,
-    Running,
-    Held,
-    Finished,
-}
+use status::Status;
 
 // The ten numbers of a counters line. The types' widths alone keep the line to 127 bytes.
 pub struct Counters {
@@ -37,29 +30,6 @@ pub enum LineAnswer {
     Written(usize),
     // The buffer has fewer than 128 bytes: 20.
     TooSmall,
-}
-
-// The status of a number: 0 to 3 as document 01 has them, and above that as 3.
-pub fn status_of(number: u8) -> Status
-    ensures { λ r. ⌜ status-number r ≡ min number 3 ⌝ }
-{
-    match number {
-        0 => Status::Fresh,
-        1 => Status::Running,
-        2 => Status::Held,
-        _ => Status::Finished,
-    }
-}
-
-fn number_of(status: Status) -> u64
-    ensures { λ r. ⌜ r ≡ status-number status ⌝ }
-{
-    match status {
-        Status::Fresh => 0,
-        Status::Running => 1,
-        Status::Held => 2,
-        Status::Finished => 3,
-    }
 }
 
 // How many decimal digits n has.
@@ -154,7 +124,7 @@ pub fn write_line(counters: Counters, buffer: &mut [u8]) -> LineAnswer
     }
     let status = counters.status;
     let numbers = [
-        number_of(status),
+        status::number_of(status) as u64,
         counters.worked as u64,
         counters.tasks as u64,
         counters.desire as u64,

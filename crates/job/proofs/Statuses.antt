@@ -14,9 +14,10 @@ use Rattle.engine.specs.declared.Course.{Course}
 use Rattle.engine.specs.View.{state-view}
 use Rattle.engine.specs.Reached.{Reached}
 use Rattle.engine.proofs.Asking.{finished-shown}
-use Rattle.job.specs.declared.Status.{Status}
-use Rattle.job.specs.declared.Status.the-variants.{Fresh, Running, Held, Finished}
-use Rattle.job.specs.Status.{StatusOf, status-number}
+use Rattle.status.specs.declared.Status.{Status}
+use Rattle.status.specs.declared.Status.the-variants.{Fresh, Running, Held, Finished}
+use Rattle.status.specs.Number.{status-number}
+use Rattle.job.specs.Status.{StatusOf}
 
 -- the status by what the numbers show
 abbrev shown-status : Numbers → Course → ℕ

@@ -1,4 +1,4 @@
--- The paper's number for each status.
+-- What the status of a job promises.
 use mathlib.Core.Path.{_≡_}
 use mathlib.Core.List.{List}
 use Prim.Native.Nat.{ℕ}
@@ -8,14 +8,8 @@ use Rattle.deque.specs.declared.Numbers.{Numbers}
 use Rattle.engine.specs.declared.Course.{Course}
 use Rattle.engine.specs.View.{state-view}
 use Rattle.engine.specs.Reached.{Reached}
-use Rattle.job.specs.declared.Status.{Status}
-use Rattle.job.specs.declared.Status.the-variants.{Fresh, Running, Held, Finished}
-
-abbrev pub status-number : Status → ℕ
-status-number Fresh = 0
-status-number Running = 1
-status-number Held = 2
-status-number Finished = 3
+use Rattle.status.specs.declared.Status.{Status}
+use Rattle.status.specs.Number.{status-number}
 
 -- the status is that of the state, whatever arrays make the numbers a job
 pub record StatusOf (m : Numbers) (c : Course) (r : Status) : Type 0 where

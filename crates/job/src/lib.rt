@@ -3,7 +3,8 @@
 ghost use mathlib.Core.Path.{_≡_};
 ghost use Rattle.model.specs.Machine.{grants, ticks, status};
 ghost use Rattle.job.specs.View.{FromCalls, job-state};
-ghost use Rattle.job.specs.Status.{status-number, StatusOf};
+ghost use Rattle.status.specs.Number.{status-number};
+ghost use Rattle.job.specs.Status.{StatusOf};
 ghost use Rattle.job.specs.Promises.{Accepting, Calling, no-numbers, fresh-job};
 use deque::MugCycles;
 use deque::Numbers;
@@ -13,6 +14,7 @@ use engine::CallAnswer;
 use engine::Course;
 use plan::PlanAnswer;
 use plan::PlanRecord;
+use status::Status;
 
 pub struct Job {
     // the plan's graph: the successors by field, 0 for none
@@ -24,13 +26,6 @@ pub struct Job {
     pub ends: [u16; 256],
     pub numbers: Numbers,
     pub course: Course,
-}
-
-pub enum Status {
-    Fresh,
-    Running,
-    Held,
-    Finished,
 }
 
 // The answer, and the record where it is Accepted. On a refusal there is no record: what stands there is the blank.

@@ -2,7 +2,7 @@
 // What is printed is held to the file stdout.
 use counters::Counters;
 use counters::LineAnswer;
-use counters::Status;
+use status::Status;
 use label::Found;
 use libc::STDOUT_FILENO;
 
@@ -89,9 +89,9 @@ fn largest() -> Counters {
     }
 }
 
-fn example(status: u8) -> Counters {
+fn example(status: Status) -> Counters {
     Counters {
-        status: counters::status_of(status),
+        status,
         worked: 4,
         tasks: 1024,
         desire: 2,
@@ -106,21 +106,21 @@ fn example(status: u8) -> Counters {
 
 fn small_buffers() {
     let mut few = [46u8; 1];
-    show_line(example(0), &mut few);
+    show_line(example(Status::Fresh), &mut few);
     let mut short = [46u8; 127];
-    show_line(example(0), &mut short);
+    show_line(example(Status::Fresh), &mut short);
     show_line(largest(), &mut short);
 }
 
 fn buffers() {
     let mut exact = [46u8; 128];
-    show_line(example(0), &mut exact);
+    show_line(example(Status::Fresh), &mut exact);
     let mut longer = [46u8; 129];
-    show_line(example(1), &mut longer);
-    show_line(example(255), &mut longer);
+    show_line(example(Status::Running), &mut longer);
+    show_line(example(Status::Finished), &mut longer);
     let mut other = [46u8; 128];
     show_line(largest(), &mut other);
-    show_line(example(2), &mut other);
+    show_line(example(Status::Held), &mut other);
 }
 
 // A number put at a place of ten bytes: the next place, and the bytes.

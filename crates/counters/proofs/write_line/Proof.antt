@@ -26,6 +26,9 @@ cast-t10 c = search needs
 cast-t11 : tie.Need-cast-t11
 cast-t11 c = search needs
 
+cast-t12 : tie.Need-cast-t12
+cast-t12 c = search needs
+
 slice-aggregate-put-numbers : tie.Need-slice-aggregate-put-numbers
 slice-aggregate-put-numbers c = search needs
 
@@ -55,6 +58,7 @@ write-line-spec =
     cast-t9
     cast-t10
     cast-t11
+    cast-t12
     slice-aggregate-put-numbers
     put-numbers-requires
     same-length
