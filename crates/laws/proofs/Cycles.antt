@@ -1,10 +1,10 @@
 -- A worker's cycle by its four kinds, with what is known of the execution in each (`cycle-cases`); the lengths that a cycle keeps; and what
 -- every cycle keeps is kept by a tick's cycles (`cycles-keep`, and `cycles-made-keep` for what speaks of the cycles made too).
 -- Assumes nothing.
-use mathlib.Core.Path.{_≡_, refl, sym, ap, _∙_}
+use mathlib.Core.Path.{_≡_, refl, _∙_}
 use mathlib.Core.Bool.{Bool, true, false, cond}
 use mathlib.Core.List.{List, [], _∷_, _++_, append-nil, append-assoc}
-use Prim.Native.Nat.{ℕ, zero, suc, _+_, _≤_, _<_}
+use Prim.Native.Nat.{ℕ, suc, _+_, _≤_, _<_}
 use native.Mathlib.Omega.{arith}
 use lib.Dec.{leb}
 use lib.ListN.{length, length-set}
@@ -70,7 +70,7 @@ cycle-flags plan w choice e =
 -- what each cycle keeps, of the cycles made so far and the execution, is kept by the cycles of workers w and up
 module _ (plan : Plan) (P : List Cycle → Execution → Type 0)
     (one : (made : List Cycle) (w choice : ℕ) (e : Execution) → w < length (e .deques) → finished e ≡ false → P made e →
-        P (made ++ (cycle-of w choice e ∷ [])) (cycle plan w choice e)) where
+    P (made ++ (cycle-of w choice e ∷ [])) (cycle plan w choice e)) where
   pub cycles-made-keep : (choices : List ℕ) (made : List Cycle) (w : ℕ) (e : Execution) → w + length choices ≤ length (e .deques) → P made e →
       P (made ++ cycles-made plan w choices e) (cycles plan w choices e)
   unfolding cycles cycles-made
@@ -81,8 +81,8 @@ module _ (plan : Plan) (P : List Cycle → Execution → Type 0)
     where
       go : (b : Bool) → finished e ≡ b →
           (P (made ++ (cycle-of w choice e ∷ [])) (cycle plan w choice e) →
-              P ((made ++ (cycle-of w choice e ∷ [])) ++ cycles-made plan (suc w) choices (cycle plan w choice e))
-              (cycles plan (suc w) choices (cycle plan w choice e))) →
+          P ((made ++ (cycle-of w choice e ∷ [])) ++ cycles-made plan (suc w) choices (cycle plan w choice e))
+          (cycles plan (suc w) choices (cycle plan w choice e))) →
           P (made ++ cond b [] (cycle-of w choice e ∷ cycles-made plan (suc w) choices (cycle plan w choice e)))
           (cond b e (cycles plan (suc w) choices (cycle plan w choice e)))
       go true f onward = rw append-nil p
