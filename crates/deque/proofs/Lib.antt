@@ -2,5 +2,4 @@
 pub mod Walks
 pub mod Releases
 pub mod Tables
-pub mod Awaits
 pub mod Views

@@ -1,17 +1,17 @@
 -- What `release` and `release_successors` promise on each way out.
-use mathlib.Core.Path.{_≡_, refl, sym, ap, _∙_}
+use mathlib.Core.Path.{_≡_, refl, _∙_}
 use mathlib.Core.Bool.{Bool, true, false, cond, not, _&&_}
-use mathlib.Core.List.{List, [], _∷_, _++_, List·Memᴰ, List·Memᴰ·head, List·Memᴰ·tail, List·Memᴰ·not-nil}
-use Prim.Native.Nat.{ℕ, zero, suc, _+_, _-_, _≤_, _<_}
+use mathlib.Core.List.{List, [], _∷_, _++_, List·Memᴰ, List·Memᴰ·head, List·Memᴰ·tail}
+use Prim.Native.Nat.{ℕ, _+_, _-_, _≤_, _<_}
 use native.Mathlib.Omega.{arith}
-use lib.Dec.{eqb, ltb, leb}
-use lib.ListN.{length, getD, set, length-set}
+use lib.Dec.{eqb, leb}
+use lib.ListN.{getD, set, length-set}
 use lib.Seq.{getD-set-other}
-use borrow.Author.Tests.{ltb-true, eqb-true, eqb-false, eq-eqb, ne-eqb, lt-leb, le-leb}
-use Rattle.model.specs.Tests.{every, keep}
+use borrow.Author.Tests.{eqb-true, eqb-false, eq-eqb, ne-eqb, lt-leb, le-leb}
+use Rattle.model.specs.Tests.{keep}
 use Rattle.laws.specs.Invariants.{occurrences}
 use Rattle.deque.specs.declared.Deque.{Deque}
-use Rattle.deque.specs.View.{walk, tasks-of, shown}
+use Rattle.deque.specs.View.{tasks-of, shown}
 use Rattle.deque.specs.Steps.{becomes-ready, Releasable, Released, one-less, AllReleasable, AllReleased, each-less, last-awaited}
 use Rattle.deque.proofs.Walks.{walk-push, walk-set}
 

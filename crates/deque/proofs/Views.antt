@@ -1,18 +1,18 @@
 -- What a store does to what the arrays show: a deque put at a place, a mug that moves the ring's head, and numbers counted down in `pending`.
 use mathlib.Core.Path.{_≡_, refl, sym, ap, _∙_}
-use mathlib.Core.Bool.{Bool, true, false, cond, _&&_}
-use mathlib.Core.List.{List, [], _∷_, _++_, map, tail, List·Memᴰ, List·Memᴰ·head, List·Memᴰ·tail}
-use Prim.Native.Nat.{ℕ, zero, suc, _+_, _-_, _%_, _≤_, _<_}
+use mathlib.Core.Bool.{Bool, true, false, cond}
+use mathlib.Core.List.{List, [], _∷_, List·Memᴰ, List·Memᴰ·head, List·Memᴰ·tail}
+use Prim.Native.Nat.{ℕ, suc, _+_, _-_, _%_, _≤_, _<_}
 use native.Mathlib.Omega.{arith}
-use lib.Dec.{eqb, leb, eqb·suc-suc}
+use lib.Dec.{eqb, eqb·suc-suc}
 use lib.ListN.{length, getD, set, length-set}
 use lib.Seq.{getD-set-same, getD-set-other}
-use borrow.Author.Tests.{eqb-true, eqb-false, eq-eqb, ne-eqb}
-use Rattle.model.specs.Tests.{below, count-set, all-set}
+use borrow.Author.Tests.{eqb-true, eqb-false, ne-eqb}
+use Rattle.model.specs.Tests.{count-set, all-set}
 use Rattle.laws.specs.Invariants.{occurrences}
 use Rattle.laws.proofs.Lists.{count-set-at-most}
 use Rattle.deque.specs.declared.Deque.{Deque}
-use Rattle.deque.specs.View.{walk, tasks-of, size-at, ends-at, put-deque, deque-at, deques-view, ring-place, muggable-view, worked-view, worked-mark, successors-at, successors-view}
+use Rattle.deque.specs.View.{tasks-of, size-at, ends-at, put-deque, deque-at, deques-view, ring-place, muggable-view, worked-view, worked-mark, successors-at, successors-view}
 use Rattle.deque.specs.Steps.{each-less}
 use Rattle.deque.proofs.Walks.{length-walk}
 use Rattle.deque.proofs.Tables.{table-length, table-at, table-set, table-same, table-tail}

@@ -1,14 +1,15 @@
 -- When the arrays and numbers of a job are sound: they show an execution that obeys the laws of executions, and what the code keeps
 -- beside it is right.
 use mathlib.Core.Path.{_≡_}
-use mathlib.Core.Bool.{Bool, false, not}
+use mathlib.Core.Bool.{Bool, false}
 use mathlib.Core.List.{List}
 use Prim.Native.Nat.{ℕ, _+_, _≤_, _<_}
 use lib.ListN.{length, getD}
-use Rattle.model.specs.Tests.{keep, count-set}
-use Rattle.model.specs.Plan.{Plan, predecessors}
+use Rattle.model.specs.Tests.{count-set}
+use Rattle.model.specs.Plan.{Plan}
 use Rattle.model.specs.Machine.{Execution}
 use Rattle.model.specs.Statements.{SoundPlan}
+use Rattle.laws.specs.Awaited.{still-awaited}
 use Rattle.laws.specs.Invariants.{Placed, Bounded, Tallied}
 use Rattle.deque.specs.declared.Numbers.{Numbers}
 use Rattle.deque.specs.View.{graph, view, worked-view}
@@ -27,7 +28,7 @@ pub record Lawful (plan : Plan) (e : Execution) : Type 0 where
 
 -- how many predecessors of a task are not worked
 unfoldable pub awaited : Plan → List Bool → ℕ → ℕ
-awaited plan worked t = length (keep (λ p. not (getD worked p false)) (predecessors plan t))
+awaited plan worked t = still-awaited plan worked t
 
 -- what the code keeps beside the execution
 pub record Kept (plan : Plan) (pending : List ℕ) (m : Numbers) : Type 0 where

@@ -2,7 +2,6 @@
 // size is ignored. `specs/View.antt` says what the arrays show.
 ghost use mathlib.Core.Path.{_≡_};
 ghost use Prim.Native.Nat.{_+_, _≤_, _<_};
-ghost use lib.ListN.{length};
 ghost use Rattle.model.specs.Machine.{stolen-count};
 ghost use Rattle.deque.specs.View.{ends-at, put-deque};
 ghost use Rattle.deque.specs.Steps.{link-after, Reachable, Releasable, Released, AllReleasable, AllReleased};

@@ -1,27 +1,26 @@
 -- One cycle of a worker: which of the three kinds it is, that the arrays then show the model's cycle, and that they stay sound.
 use mathlib.Core.Path.{_≡_, refl, sym, ap, subst, _∙_}
-use mathlib.Core.Bool.{Bool, true, false, cond}
-use mathlib.Core.List.{List, [], _∷_, _++_, tail, List·Memᴰ}
-use Prim.Native.Nat.{ℕ, zero, suc, _+_, _-_, _%_, _≤_, _<_}
+use mathlib.Core.List.{List, [], _∷_}
+use Prim.Native.Nat.{ℕ, suc, _+_, _-_, _%_, _≤_, _<_}
 use native.Mathlib.Omega.{arith}
-use lib.Dec.{eqb, ltb}
+use lib.Dec.{ltb}
 use lib.ListN.{length, getD}
 use borrow.Author.Tests.{lt-ltb}
-use Rattle.model.specs.Tests.{every, below}
+use Rattle.model.specs.Tests.{below}
 use Rattle.model.specs.Plan.{Plan, tasks}
-use Rattle.model.specs.Machine.{Execution, deque-of, decided, performed, steal-cycle, work-cycle, mug-cycle, cycle-of, cycle}
+use Rattle.model.specs.Machine.{Execution, deque-of, performed, steal-cycle, work-cycle, mug-cycle, cycle-of, cycle}
 use Rattle.model.specs.Statements.{SoundPlan}
 use Rattle.laws.proofs.Lists.{every-from}
 use Rattle.laws.proofs.Placement.{cycle-placed, cycle-tallied, worker-has}
 use Rattle.laws.proofs.Bounds.{cycle-bounded}
 use Rattle.deque.specs.declared.Deque.{Deque}
 use Rattle.deque.specs.declared.Numbers.{Numbers}
-use Rattle.deque.specs.View.{walk, tasks-of, size-at, ends-at, deque-at, deques-view, muggable-view, graph, view}
+use Rattle.deque.specs.View.{walk, size-at, ends-at, deque-at, muggable-view, graph, view}
 use Rattle.deque.specs.Steps.{Reachable}
-use Rattle.deque.specs.Sound.{Sizes, Lawful, Kept, Sound, Room, Within}
+use Rattle.deque.specs.Sound.{Sizes, Lawful, Kept, Sound, Within}
 use Rattle.deque.proofs.Walks.{walk-front}
-use Rattle.deque.proofs.Views.{deque-at-is, worker-at, workers-shown, muggable-shown, tasks-shown, ring-tail}
-use Rattle.turn.specs.Turns.{after-work, after-mug, after-steal, cycle-limit, Turn, MugTurn, Mugged, StealTurn, Stolen, WorkTurn, Worked, ChoiceTurn, Cycled}
+use Rattle.deque.proofs.Views.{deque-at-is, worker-at, workers-shown, tasks-shown, ring-tail}
+use Rattle.turn.specs.Turns.{MugTurn, Mugged, StealTurn, Stolen, WorkTurn, Worked, ChoiceTurn, Cycled}
 
 -- ---- the model's cycle, by what the worker sees
 

@@ -1,8 +1,8 @@
 -- Executions that agree in every part are the same, and the counts after each kind of cycle.
-use mathlib.Core.Path.{_≡_, refl, sym, ap, _∙_}
+use mathlib.Core.Path.{_≡_}
 use mathlib.Core.Bool.{Bool}
 use mathlib.Core.List.{List}
-use Prim.Native.Nat.{ℕ, suc, _+_}
+use Prim.Native.Nat.{ℕ}
 use native.Mathlib.Numerals.{add-one}
 use native.Mathlib.Nat.{add-comm}
 use Rattle.model.specs.Machine.{Execution, Counts, counted-work, counted-mug, counted-steal}

@@ -1,13 +1,13 @@
 -- A mug cycle: the oldest muggable deque's front and size at the worker's place, and the ring's head one further on, show the model's step.
 use mathlib.Core.Path.{_≡_, refl, sym, ap, _∙_}
-use mathlib.Core.List.{List, [], _∷_, tail}
+use mathlib.Core.List.{List, [], tail}
 use Prim.Native.Nat.{ℕ, suc, _+_, _-_, _%_, _≤_, _<_}
 use native.Mathlib.Omega.{arith}
-use lib.ListN.{length, getD, set}
+use lib.ListN.{set}
 use Rattle.model.specs.Machine.{mug-cycle}
 use Rattle.deque.specs.declared.Deque.{Deque}
 use Rattle.deque.specs.declared.Numbers.{Numbers}
-use Rattle.deque.specs.View.{tasks-of, ends-at, put-deque, deque-at, deques-view, muggable-view, view}
+use Rattle.deque.specs.View.{ends-at, put-deque, deque-at, deques-view, muggable-view, view}
 use Rattle.deque.proofs.Views.{deque-at-is, put-places, put-deques, put-muggable, ring-tail}
 use Rattle.turn.specs.Turns.{after-mug, MugTurn, Mugged}
 use Rattle.turn.proofs.Executions.{same-execution, mug-counted}

@@ -1,20 +1,19 @@
 -- A steal cycle: of a deque of two or more tasks the front part stays and the back part becomes the thief's deque; of any other nothing
 -- moves.
 use mathlib.Core.Path.{_≡_, refl, sym, ap, subst, _∙_}
-use mathlib.Core.Bool.{Bool, true, false, cond}
-use mathlib.Core.List.{List, [], _∷_, tail}
+use mathlib.Core.Bool.{true, false}
+use mathlib.Core.List.{List, []}
 use Prim.Native.Nat.{ℕ, zero, suc, _+_, _-_, _≤_, _<_}
 use native.Mathlib.Omega.{arith}
 use lib.Dec.{leb, ltb}
-use lib.ListN.{length, getD, set, take, drop}
+use lib.ListN.{length, getD, set, drop}
 use borrow.Author.Tests.{le-leb, lt-leb}
 use Rattle.model.specs.Tests.{every}
-use Rattle.model.specs.Plan.{Plan}
-use Rattle.model.specs.Machine.{stolen-count, steal-cycle, performed, successful-steal, failed-steal, left-by-steal, taken-by-steal}
+use Rattle.model.specs.Machine.{stolen-count, successful-steal, failed-steal, left-by-steal, taken-by-steal}
 use Rattle.laws.proofs.Lists.{and-left, and-right, both}
 use Rattle.deque.specs.declared.Deque.{Deque}
 use Rattle.deque.specs.declared.Numbers.{Numbers}
-use Rattle.deque.specs.View.{walk, tasks-of, size-at, ends-at, put-deque, deque-at, deques-view, muggable-view, view}
+use Rattle.deque.specs.View.{walk, size-at, ends-at, put-deque, deque-at, deques-view, muggable-view}
 use Rattle.deque.specs.Steps.{link-after, Reachable}
 use Rattle.deque.proofs.Walks.{length-walk, take-walk, drop-walk}
 use Rattle.deque.proofs.Views.{deque-at-is, deque-length, worker-at, put-places, put-deques, put-muggable}

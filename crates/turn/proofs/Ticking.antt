@@ -1,9 +1,9 @@
 -- A tick's cycles: the model's cycles of all workers are those of the workers that are left, from what the arrays show now; and they end
 -- where the job is finished.
-use mathlib.Core.Path.{_≡_, refl, sym, ap, subst, _∙_}
-use mathlib.Core.Bool.{Bool, true, false, cond, _&&_}
-use mathlib.Core.List.{List, [], _∷_, _++_}
-use Prim.Native.Nat.{ℕ, zero, suc, _+_, _-_, _≤_, _<_}
+use mathlib.Core.Path.{_≡_, refl, sym, ap, _∙_}
+use mathlib.Core.Bool.{Bool, true, false}
+use mathlib.Core.List.{List, [], _∷_}
+use Prim.Native.Nat.{ℕ, zero, suc, _+_, _≤_, _<_}
 use native.Mathlib.Omega.{arith}
 use native.Mathlib.Numerals.{add-one}
 use lib.Dec.{eqb, ltb}
@@ -12,13 +12,13 @@ use lib.Seq.{drop-cons}
 use borrow.Author.Tests.{ltb-true, eq-eqb, ne-eqb}
 use Rattle.model.specs.Tests.{every}
 use Rattle.model.specs.Plan.{Plan}
-use Rattle.model.specs.Machine.{Execution, finished, cycle, cycles, after-the-finish}
+use Rattle.model.specs.Machine.{Execution, finished, cycle, cycles}
 use Rattle.laws.proofs.Lists.{and-left, and-right}
 use Rattle.deque.specs.declared.Numbers.{Numbers}
 use Rattle.deque.specs.View.{worked-view, graph, view}
 use Rattle.deque.specs.Sound.{Kept, Sound, Room, Within}
 use Rattle.deque.proofs.Views.{workers-shown, flags-shown, all-counted}
-use Rattle.turn.specs.Turns.{count-limit, cycle-limit, Turn, ChoiceTurn, Cycled, TickTurn, Ticked}
+use Rattle.turn.specs.Turns.{ChoiceTurn, Cycled, TickTurn, Ticked}
 
 -- what holds of every element holds of the one at a place
 every-place : (test : ℕ → Bool) (xs : List ℕ) (i : ℕ) → every test xs ≡ true → i < length xs → test (getD xs i 0) ≡ true

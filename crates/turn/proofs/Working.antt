@@ -1,35 +1,32 @@
 -- A work cycle: the front task is marked, its successors are counted down and those that became ready are pushed; the arrays then show the
 -- model's step, and `pending` is right again.
-use mathlib.Core.Path.{_≡_, refl, sym, ap, subst, _∙_}
-use mathlib.Core.Logic.{_⊎_, inl, inr}
-use mathlib.Core.Bool.{Bool, true, false, cond, not, _&&_}
+use mathlib.Core.Path.{_≡_, refl, sym, ap, _∙_}
+use mathlib.Core.Bool.{Bool, true, false}
 use mathlib.Core.List.{List, [], _∷_, _++_, tail, List·Memᴰ, List·Memᴰ·head, List·Memᴰ·tail}
 use Prim.Native.Nat.{ℕ, zero, suc, _+_, _-_, _≤_, _<_}
 use native.Mathlib.Omega.{arith}
-use native.Mathlib.Numerals.{add-one}
-use lib.Dec.{eqb, leb, ltb}
+use lib.Dec.{eqb, leb}
 use lib.ListN.{length, getD, set, length-set}
 use lib.Seq.{getD-set-same, getD-set-other}
-use borrow.Author.Tests.{eqb-true, eqb-false, eq-eqb, ne-eqb, le-leb, lt-leb}
+use borrow.Author.Tests.{eq-eqb, ne-eqb, lt-leb}
 use Rattle.model.specs.Tests.{keep, member, count-set}
-use Rattle.model.specs.Plan.{Plan, tasks, successors-of, predecessors}
+use Rattle.model.specs.Plan.{Plan, tasks, successors-of}
 use Rattle.model.specs.Machine.{Execution, deque-of, ready, completed, released, work-cycle}
-use Rattle.model.specs.Statements.{SoundPlan}
-use Rattle.laws.specs.Invariants.{occurrences, in-deques, Placed}
+use Rattle.laws.specs.Invariants.{occurrences, Placed}
 use Rattle.laws.proofs.Lists.{true-is-not-false, not-true-is-false, member-is, is-member, no-member, one-deque, count-set-more, count-set-at-most}
 use Rattle.laws.proofs.Readiness.{Waits, above, inside, successor-once}
 use Rattle.laws.proofs.Placement.{front-waits, successor-unworked, released-stand-nowhere}
+use Rattle.laws.proofs.Awaiting.{awaits-none, successor-awaits, other-awaits, awaits-at-most}
 use Rattle.laws.proofs.Bounds.{worker-length}
 use Rattle.deque.specs.declared.Deque.{Deque}
 use Rattle.deque.specs.declared.Numbers.{Numbers}
-use Rattle.deque.specs.View.{walk, tasks-of, size-at, ends-at, put-deque, deque-at, deques-view, ring-place, muggable-view, worked-view, worked-mark, shown, successors-at, successors-view, graph, view}
-use Rattle.deque.specs.Steps.{AllReleasable, AllReleased, each-less, last-awaited}
-use Rattle.deque.specs.Sound.{Sizes, Kept, Sound, awaited, Room}
+use Rattle.deque.specs.View.{tasks-of, size-at, put-deque, deque-at, deques-view, ring-place, muggable-view, worked-view, worked-mark, shown, successors-at, graph, view}
+use Rattle.deque.specs.Steps.{AllReleasable, AllReleased, last-awaited}
+use Rattle.deque.specs.Sound.{Kept, Sound, awaited}
 use Rattle.deque.proofs.Walks.{walk-front}
 use Rattle.deque.proofs.Tables.{table-set}
-use Rattle.deque.proofs.Awaits.{ready-awaits-none, awaited-less, awaited-at-most}
-use Rattle.deque.proofs.Views.{deque-at-is, deque-length, worker-at, workers-shown, muggable-at, worked-at, flags-shown, tasks-shown, successors-shown, put-places, put-deques, put-muggable, links-deques, links-muggable, less-length, less-at}
-use Rattle.turn.specs.Turns.{after-work, cycle-limit, Turn, WorkTurn, Worked}
+use Rattle.deque.proofs.Views.{deque-at-is, deque-length, worker-at, workers-shown, muggable-at, flags-shown, tasks-shown, successors-shown, put-places, put-deques, put-muggable, links-deques, links-muggable, less-length, less-at}
+use Rattle.turn.specs.Turns.{after-work, WorkTurn, Worked}
 use Rattle.turn.proofs.Executions.{same-execution, work-counted}
 
 -- two tests that agree on a list keep the same of it
@@ -123,14 +120,20 @@ module _ {first second pending next ends : List ℕ} {m : Numbers} {w : ℕ} (tu
     s-unworked = successor-unworked placed t t-of-plan (front .unworked) s is-successor
 
     s-awaits : getD pending s 0 ≡ awaited plan (set worked t true) s + 1
+    unfolding awaited
     s-awaits =
-        sound .kept .pending-right s s-inside s-unworked
-        ∙ awaited-less plan worked t t-of-plan flag (front .unworked) s
-        ∙ rw is-successor
+        omega (arith, sound .kept .pending-right s s-inside s-unworked, successor-awaits plan worked t t-of-plan (placed .flags) (front .unworked) s is-successor)
 
     s-few : getD pending s 0 ≤ 2
+    unfolding awaited
     s-few =
-        omega (arith, sound .kept .pending-right s s-inside s-unworked, awaited-at-most plan worked s, sound .planned .preceded-twice s (omega (arith, above (sound .planned) t s t-of-plan is-successor)) (inside (sound .planned) t s t-of-plan is-successor))
+        omega (
+          arith,
+          sound .kept .pending-right s s-inside s-unworked,
+          awaits-at-most (sound .planned) worked s
+              (omega (arith, above (sound .planned) t s t-of-plan is-successor))
+              (inside (sound .planned) t s t-of-plan is-successor),
+        )
 
     nowhere-worker : (i : ℕ) → i < m .workers → occurrences s (deque-at next ends i) ≡ 0
     nowhere-worker i l =
@@ -229,11 +232,15 @@ module _ {first second pending next ends : List ℕ} {m : Numbers} {w : ℕ} (tu
 
     right-at : (x : ℕ) → x < m .tasks → getD worked x false ≡ false → (x ≡ t → ⊥) → (b : Bool) → member x (successors-of plan t) ≡ b →
         getD pending′ x 0 ≡ awaited plan (set worked t true) x
+    unfolding awaited
     right-at x l unworked ne true is = number-less x is
     right-at x l unworked ne false is =
-        let as-before : awaited plan worked x ≡ awaited plan (set worked t true) x + 0 =
-        awaited-less plan worked t t-of-plan flag (front .unworked) x ∙ rw is in
-        omega (arith, number-same x ne is, sound .kept .pending-right x l unworked, as-before)
+        omega (
+          arith,
+          number-same x ne is,
+          sound .kept .pending-right x l unworked,
+          other-awaits plan worked t t-of-plan (placed .flags) (front .unworked) x is,
+        )
 
     kept-after : Kept plan pending′ (after-work m)
     kept-after =
@@ -250,8 +257,10 @@ module _ {first second pending next ends : List ℕ} {m : Numbers} {w : ℕ} (tu
     -- ---- what the arrays show
 
     came-ready : (s : ℕ) → List·Memᴰ s (successors-of plan t) → last-awaited (set pending t worked-mark) s ≡ ready plan (set worked t true) s
+    unfolding awaited
     came-ready s mem =
-        rw (unmarked worked-mark s (s-apart s mem), s-awaits s mem, ready-awaits-none plan (set worked t true) s) (one-more (awaited plan (set worked t true) s))
+        rw (unmarked worked-mark s (s-apart s mem), s-awaits s mem, ← awaits-none plan (set worked t true) s)
+        (one-more (awaited plan (set worked t true) s))
 
     own-after : tasks-of next′ after ≡ released plan (completed t worked) t ++ tail (deque-of e w)
     unfolding released

@@ -8,7 +8,7 @@ use lib.Dec.{ltb}
 use lib.ListN.{length, getD}
 use Rattle.model.specs.Tests.{every}
 use Rattle.model.specs.Plan.{Plan}
-use Rattle.model.specs.Machine.{Execution, Cycle, steal-cycle, performed, work-cycle, mug-cycle, cycle, cycles}
+use Rattle.model.specs.Machine.{steal-cycle, performed, work-cycle, mug-cycle, cycle, cycles}
 use Rattle.deque.specs.declared.Numbers.{Numbers}
 use Rattle.deque.specs.View.{size-at, deque-at, graph, view}
 use Rattle.deque.specs.Steps.{Reachable}

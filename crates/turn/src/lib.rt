@@ -6,7 +6,6 @@ use deque::StealCycles;
 use deque::WorkCycles;
 ghost use mathlib.Core.Path.{_≡_};
 ghost use Prim.Native.Nat.{_+_, _≤_, _<_};
-ghost use lib.ListN.{length};
 ghost use Rattle.deque.specs.Sound.{Room};
 ghost use Rattle.turn.specs.Turns.{after-work, after-mug, after-steal, cycle-limit, MugTurn, Mugged, StealTurn, Stolen, WorkTurn, Worked, ChoiceTurn, Cycled, TickTurn, Ticked};
 

@@ -11,9 +11,6 @@ use Rattle.deque.specs.Steps.{link-after}
 use Rattle.deque.proofs.Walks.{Link, follow}
 use Rattle.deque.proofs.ahead.Statement.{statement}
 use Rattle.deque.proofs.ahead.Tie as tie
-use Rattle.deque.proofs.ahead.Reads as reads
-use Rattle.deque.proofs.ahead.Lts as lts
-use Rattle.deque.proofs.wide.Reads as wide-reads
 
 abbrev Inv-loop : tie.InvT-loop
 Inv-loop next front steps task₀ left₀ task left =

@@ -6,9 +6,6 @@ use denote.Ref.{now}
 use Rattle.deque.proofs.Releases.{released-none, released-later, released-now}
 use Rattle.deque.proofs.release.Statement.{statement}
 use Rattle.deque.proofs.release.Tie as tie
-use Rattle.deque.proofs.release.Reads as reads
-use Rattle.deque.proofs.release.Lts as lts
-use Rattle.deque.proofs.wide.Reads as wide-reads
 
 wide-requires : tie.Need-wide-requires
 wide-requires c κs = search needs

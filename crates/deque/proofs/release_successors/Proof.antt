@@ -2,9 +2,6 @@
 use Rattle.deque.proofs.Releases.{all-none, second-releasable, first-releasable, all-released}
 use Rattle.deque.proofs.release_successors.Statement.{statement}
 use Rattle.deque.proofs.release_successors.Tie as tie
-use Rattle.deque.proofs.release_successors.Reads as reads
-use Rattle.deque.proofs.release_successors.Lts as lts
-use Rattle.deque.proofs.release.Reads as release-reads
 
 returns : tie.Need-returns
 returns c = all-none _ _ _ _ _ (c .if1 .taken)

@@ -3,12 +3,6 @@ use native.Mathlib.Omega.{arith}
 use Rattle.turn.proofs.Cycling.{worker-place, work-turn, cycled-work, mug-turn, cycled-mug, steal-turn, cycled-steal}
 use Rattle.turn.proofs.cycle.Statement.{statement}
 use Rattle.turn.proofs.cycle.Tie as tie
-use Rattle.turn.proofs.cycle.Reads as reads
-use Rattle.turn.proofs.cycle.Lts as lts
-use Rattle.deque.proofs.deque_at.Reads as deque-at-reads
-use Rattle.turn.proofs.mug_cycle.Reads as mug-cycle-reads
-use Rattle.turn.proofs.steal_cycle.Reads as steal-cycle-reads
-use Rattle.turn.proofs.work_cycle.Reads as work-cycle-reads
 
 deque-at-requires : tie.Need-deque-at-requires
 deque-at-requires c κs = worker-place (c .before .pre)

@@ -6,9 +6,6 @@ use lib.ListN.{length}
 use Rattle.turn.proofs.Ticking.{Underway, begin, tick-finished, tick-over, next-turn, onward}
 use Rattle.turn.proofs.cycles.Statement.{statement}
 use Rattle.turn.proofs.cycles.Tie as tie
-use Rattle.turn.proofs.cycles.Reads as reads
-use Rattle.turn.proofs.cycles.Lts as lts
-use Rattle.turn.proofs.cycle.Reads as cycle-reads
 
 abbrev Inv-loop : tie.InvT-loop
 Inv-loop first second pending₀ next₀ ends₀ choices after₀ w₀ pending next ends after w =

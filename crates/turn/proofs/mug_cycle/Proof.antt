@@ -3,11 +3,6 @@ use borrow.Author.Needs.{needs}
 use Rattle.turn.proofs.Mugging.{mugged}
 use Rattle.turn.proofs.mug_cycle.Statement.{statement}
 use Rattle.turn.proofs.mug_cycle.Tie as tie
-use Rattle.turn.proofs.mug_cycle.Reads as reads
-use Rattle.turn.proofs.mug_cycle.Lts as lts
-use Rattle.deque.proofs.deque_at.Reads as deque-at-reads
-use Rattle.deque.proofs.put.Reads as put-reads
-use Rattle.turn.proofs.after_mug.Reads as after-mug-reads
 
 add-place : tie.Need-add-place
 add-place c = search needs

@@ -1,16 +1,9 @@
 -- `turn::steal_cycle` meets its contract.
 use native.Mathlib.Omega.{arith}
-use Rattle.turn.proofs.Stealing.{Theft, stolen-nothing, stolen, walk-within}
+use Rattle.turn.proofs.Stealing.{stolen-nothing, stolen, walk-within}
 use borrow.Author.Needs.{needs}
 use Rattle.turn.proofs.steal_cycle.Statement.{statement}
 use Rattle.turn.proofs.steal_cycle.Tie as tie
-use Rattle.turn.proofs.steal_cycle.Reads as reads
-use Rattle.turn.proofs.steal_cycle.Lts as lts
-use Rattle.deque.proofs.ahead.Reads as ahead-reads
-use Rattle.deque.proofs.deque_at.Reads as deque-at-reads
-use Rattle.deque.proofs.put.Reads as put-reads
-use Rattle.deque.proofs.stolen_count.Reads as stolen-count-reads
-use Rattle.turn.proofs.after_steal.Reads as after-steal-reads
 
 deque-at-requires : tie.Need-deque-at-requires
 deque-at-requires c κs = search needs

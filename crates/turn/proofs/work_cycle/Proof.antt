@@ -1,6 +1,6 @@
 -- `turn::work_cycle` meets its contract.
 use mathlib.Core.Path.{_≡_, ap, _∙_}
-use Prim.Native.Nat.{ℕ, _<_}
+use Prim.Native.Nat.{_<_}
 use native.Mathlib.Omega.{arith}
 use denote.Ref.{now}
 use lib.ListN.{getD}
@@ -10,13 +10,6 @@ use Rattle.turn.proofs.Working.{worker-place, front-inside, releasable,
 use borrow.Author.Needs.{needs}
 use Rattle.turn.proofs.work_cycle.Statement.{statement}
 use Rattle.turn.proofs.work_cycle.Tie as tie
-use Rattle.turn.proofs.work_cycle.Reads as reads
-use Rattle.turn.proofs.work_cycle.Lts as lts
-use Rattle.deque.proofs.deque_at.Reads as deque-at-reads
-use Rattle.deque.proofs.put.Reads as put-reads
-use Rattle.deque.proofs.release_successors.Reads as release-successors-reads
-use Rattle.deque.proofs.wide.Reads as wide-reads
-use Rattle.turn.proofs.after_work.Reads as after-work-reads
 
 deque-at-requires : tie.Need-deque-at-requires
 deque-at-requires c κs = omega (arith, worker-place (c .before .pre))
