@@ -29,7 +29,7 @@ module _ {plan : Plan} {first second : List ℕ} where
       }
 
   -- of a job that calls reached before the log
-  pub after-a-log : {log : List ℕ} {calls : List Call} {pending next ends pending′ next′ ends′ : List ℕ} {m : Numbers} {c : Course} {ran : Ran} →
+  pub after-a-log : {log pending next ends pending′ next′ ends′ : List ℕ} {calls : List Call} {m : Numbers} {c : Course} {ran : Ran} →
       Reached plan calls first second pending next ends m c →
       Runs log first second pending next ends m c pending′ next′ ends′ ran →
       DemandThreeHolds plan (calls ++ entries log .calls) (ran .numbers)

@@ -46,11 +46,15 @@ refusals-at-most (refused n) = omega arith
 
 -- the job that the run began with is given by pending₀, next₀, ends₀, m and c
 module _ (log first second pending₀ next₀ ends₀ : List ℕ) (m : Numbers) (c : Course) where
+  -- where model's run begins
+  abbrev before : Ran
+  before = record { state = state-view pending₀ next₀ ends₀ m c; refusals = 0 }
+
   pub record SoFar (pending next ends : List ℕ) (place : Place) : Type 0 where
     pub done : List Call
     pub calls-left : entries log .calls ≡ done ++ entries (drop (place .at) log) .calls
     pub broken-left : entries log .broken ≡ entries (drop (place .at) log) .broken
-    pub ran : run-calls (plan-view first second (m .tasks) c) done (record { state = state-view pending₀ next₀ ends₀ m c; refusals = 0 })
+    pub ran : run-calls (plan-view first second (m .tasks) c) done before
         ≡ record { state = state-view pending next ends (place .numbers) (place .course); refusals = place .refusals }
     pub reached-so-far : (plan : Plan) (calls : List Call) → Reached plan calls first second pending₀ next₀ ends₀ m c →
         Reached plan (calls ++ done) first second pending next ends (place .numbers) (place .course)
@@ -115,19 +119,24 @@ module _ (log first second pending₀ next₀ ends₀ : List ℕ) (m : Numbers) 
                 run-one-more _ (so-far .done) call _
                 ∙ ap (called (plan-view first second (m .tasks) c) call) (so-far .ran)
                 ∙ ran-now call moves;
-            reached-so-far = λ plan calls r. rw (← append-assoc) (moves .reached plan (calls ++ so-far .done) (so-far .reached-so-far plan calls r));
+            reached-so-far =
+                λ plan calls r.
+                rw (← append-assoc) (moves .reached plan (calls ++ so-far .done) (so-far .reached-so-far plan calls r));
             few = omega (arith, so-far .few, refusals-at-most (answer-of (moved .answer)));
             inside = within;
           })
 
       -- the log ends here, with a broken entry or without
       pub ends-here : (broken : Bool) (answer : LogAnswer) {ran : Ended} → ran ≡ ended-at place answer →
-          entries (drop (place .at) log) ≡ record { calls = []; broken = broken } → log-answer-of answer ≡ cond broken (refused 18) accepted →
+          entries (drop (place .at) log) ≡ record { calls = []; broken = broken } →
+          log-answer-of answer ≡ cond broken (refused 18) accepted →
           Runs log first second pending₀ next₀ ends₀ m c pending next ends ran
       unfolding run-log log-answer
       ends-here broken answer e here number =
-          let all : entries log .calls ≡ so-far .done = so-far .calls-left ∙ ap (λ (e : Entries). so-far .done ++ e .calls) here ∙ append-nil (so-far .done) in
-          let ran = ap (λ calls. run-calls (plan-view first second (m .tasks) c) calls (record { state = state-view pending₀ next₀ ends₀ m c; refusals = 0 })) all ∙ so-far .ran in
+          let all : entries log .calls ≡ so-far .done =
+          so-far .calls-left ∙ ap (λ (e : Entries). so-far .done ++ e .calls) here ∙ append-nil (so-far .done)
+          in
+          let ran = ap (λ done. run-calls (plan-view first second (m .tasks) c) done before) all ∙ so-far .ran in
           rw e
           (record {
             state-after = sym (ap (λ (r : Ran). r .state) ran);

@@ -39,7 +39,8 @@ ended-at place answer =
     record { numbers = place .numbers; course = place .course; refusals = place .refusals; answer = answer }
 
 -- first and second are the plan's arrays; pending, next, ends, m, c the job that the run began with; the primed ones and `ran` what it left
-pub record Runs (log first second pending next ends : List ℕ) (m : Numbers) (c : Course) (pending′ next′ ends′ : List ℕ) (ran : Ran) : Type 0 where
+pub record Runs (log first second pending next ends : List ℕ) (m : Numbers) (c : Course) (pending′ next′ ends′ : List ℕ)
+    (ran : Ran) : Type 0 where
   pub state-after : state-view pending′ next′ ends′ (ran .numbers) (ran .course)
       ≡ run-log (plan-view first second (m .tasks) c) log (state-view pending next ends m c) .state
   pub refusals-counted : ran .refusals ≡ run-log (plan-view first second (m .tasks) c) log (state-view pending next ends m c) .refusals

@@ -41,10 +41,11 @@ log-of c = now (entry c .args .log)
 abbrev place-of : Read → Place
 place-of c = head c .loop .place
 
-log-fits : (c : Read) → length (log-of c) < 2 ^ 64
-log-fits c = entry c .good .1 .1 .1 .1 .1 .1 .1 .0 .0
+log-fits : (c : Read) → length (log-of c) < 2 ^ 63
+log-fits c = omega (arith, entry c .good .1 .1 .1 .1 .1 .1 .1 .0 .1)
 
-grant-read : (c : tie.After-g Inv-loop μ-loop) → ReadAt (log-of (c .before .before)) (place-of (c .before .before) .at) (Grant (c .g .given .0 .0))
+grant-read : (c : tie.After-g Inv-loop μ-loop) →
+    ReadAt (log-of (c .before .before)) (place-of (c .before .before) .at) (Grant (c .g .given .0 .0))
 grant-read c = record { is = sym (c .before .before .read-entry .ensures) ∙ c .g .given .1 }
 
 tick-read : (c : tie.After-start Inv-loop μ-loop) →
@@ -105,10 +106,10 @@ add-end : tie.Need-add-end Inv-loop μ-loop
 add-end c = omega (arith, tick-inside (tick-read (c .before)), log-fits (c .before .before .before))
 
 sub-tick : tie.Need-sub-tick Inv-loop μ-loop
-sub-tick c = omega arith
+sub-tick c = omega (arith, tick-inside (tick-read (c .before .before .before .before)))
 
 part-tick-start : tie.Need-part-tick-start Inv-loop μ-loop
-part-tick-start c = omega arith
+part-tick-start c = omega (arith, tick-inside (tick-read (c .before .before .before .before)))
 
 part-tick-end : tie.Need-part-tick-end Inv-loop μ-loop
 part-tick-end c = tick-inside (tick-read (c .before .before .before .before)) .1
@@ -127,8 +128,8 @@ counted-requires-2 c κs =
 
 loop-less-2 : tie.Need-loop-less-2 Inv-loop μ-loop
 loop-less-2 c =
-    omega
-    (arith, tick-inside (tick-read (c .before .before .before .before .before .before .before)), ap (λ (p : Place). p .at) (c .counted2 .ensures))
+    let is = tick-read (c .before .before .before .before .before .before .before) in
+    omega (arith, tick-inside is, ap (λ (p : Place). p .at) (c .counted2 .ensures))
 
 loop-again-2 : tie.Need-loop-again-2 Inv-loop μ-loop
 loop-again-2 c =
