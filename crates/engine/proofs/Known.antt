@@ -7,8 +7,8 @@ use Rattle.model.specs.Plan.{Plan, tasks}
 use Rattle.model.specs.Machine.{State, Call}
 use Rattle.model.specs.History.{run}
 use Rattle.model.specs.Statements.{SoundPlan}
-use Rattle.laws.specs.Reached.{Arranged, Measured, Numbers as CountsFit}
-use Rattle.laws.proofs.Theorems.{arranged, measured, numbers, desire-is-power}
+use Rattle.laws.specs.Reached.{Arranged, Measured, CountsFit}
+use Rattle.laws.proofs.Theorems.{arranged, measured, counts-fit, desire-is-power}
 use Rattle.plan.specs.Rules.{WithinBounds}
 use Rattle.plan.proofs.Sound.{accepted-sound, within-bounds}
 use Rattle.quantum.specs.Closing.{Power}
@@ -48,7 +48,7 @@ module _ {plan : Plan} {calls : List Call} {first second pending next ends : Lis
   pub known-numbers : CountsFit shown-state
   known-numbers =
       let bounds = plan-bounds (r .accepted-plan) in
-      rw (r .its-state) (numbers (plan-sound (r .accepted-plan)) calls (bounds .quantum-most) (bounds .tasks-most))
+      rw (r .its-state) (counts-fit (plan-sound (r .accepted-plan)) calls (bounds .quantum-most) (bounds .tasks-most))
 
   -- the desire is a power of R
   pub known-power : Power (c .responsiveness) (c .desire)
