@@ -96,10 +96,10 @@ pub record IsRefusal (answer : CallAnswer) : Type 0 where
 -- the code tells the answers apart by their tags, 0 for `Accepted`
 pub refusing : (answer : CallAnswer) → OneOf (1 ∷ 2 ∷ 3 ∷ 4 ∷ 5 ∷ 6 ∷ 7 ∷ []) (tagOf the-type answer) → IsRefusal answer
 refusing Accepted h = absurd (miss (1 ∷ 2 ∷ 3 ∷ 4 ∷ 5 ∷ 6 ∷ 7 ∷ []) 0 tt h)
-refusing Finished h = record { number = 11; told = refl }
-refusing QuantumOpen h = record { number = 12; told = refl }
-refusing QuantaSpent h = record { number = 13; told = refl }
-refusing AboveDesire h = record { number = 14; told = refl }
-refusing NoQuantum h = record { number = 15; told = refl }
-refusing WrongChoiceCount h = record { number = 16; told = refl }
-refusing BadChoice h = record { number = 17; told = refl }
+refusing Finished h = record { number = _; told = refl }
+refusing QuantumOpen h = record { number = _; told = refl }
+refusing QuantaSpent h = record { number = _; told = refl }
+refusing AboveDesire h = record { number = _; told = refl }
+refusing NoQuantum h = record { number = _; told = refl }
+refusing WrongChoiceCount h = record { number = _; told = refl }
+refusing BadChoice h = record { number = _; told = refl }
