@@ -24,7 +24,7 @@ use Rattle.deque.specs.Sound.{awaited, Kept}
 use Rattle.deque.proofs.Tables.{table-length, table-at}
 use Rattle.deque.proofs.Views.{tasks-shown}
 use Rattle.plan.specs.View as PlanView
-use Rattle.plan.specs.Contracts.{Holds, RightReading, blank}
+use Rattle.plan.specs.Promise.{Holds, RightReading, blank}
 use Rattle.plan.specs.declared.Reading.{Reading}
 use Rattle.plan.specs.declared.PlanRecord.{PlanRecord}
 use Rattle.plan.proofs.Sound.{accepted-sound}

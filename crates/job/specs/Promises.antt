@@ -9,7 +9,7 @@ use Rattle.model.specs.Plan.{Plan, plan-of, plan-answer}
 use Rattle.model.specs.Machine.{Call, call-answer, step, fresh}
 use Rattle.plan.specs.declared.PlanRecord.{PlanRecord}
 use Rattle.plan.specs.Answers.{answer-of as plan-answer-of}
-use Rattle.plan.specs.Contracts.{blank}
+use Rattle.plan.specs.Promise.{blank}
 use Rattle.deque.specs.declared.Numbers.{Numbers}
 use Rattle.engine.specs.Answers.{answer-of}
 use Rattle.job.specs.declared.Job.{Job}
