@@ -1,20 +1,18 @@
 -- The first "no" of a grant's and a tick's questions, from the tests of the code: one law for each way out. And an answer that is not
 -- `Accepted` is a refusal.
 -- Assumes nothing.
-use mathlib.Core.Path.{_≡_, refl, sym, _∙_, ap}
-use mathlib.Core.Bool.{Bool, true, false, cond, not, _&&_}
+use mathlib.Core.Path.{_≡_, refl}
+use mathlib.Core.Bool.{true, false}
 use mathlib.Core.List.{List, [], _∷_}
-use Prim.Native.Nat.{ℕ, zero, suc, _+_, _≤_, _<_}
-use native.Mathlib.Omega.{arith}
+use Prim.Native.Nat.{ℕ, _+_, _≤_, _<_}
 use native.Mathlib.Numerals.{add-one}
 use borrow.Author.Tests.{lt-ltb, le-ltb, le-leb, lt-leb, eq-eqb, ne-eqb}
-use lib.Dec.{leb, ltb, eqb}
 use types.Run.{OneOf, miss}
 use denote.Enum.Declared.{tagOf}
 use lib.ListN.{length, getD, drop}
 use lib.Seq.{drop-cons, drop-length}
 use Rattle.model.specs.Tests.{every}
-use Rattle.model.specs.Questions.{Answer, accepted, refused, ask, first-no}
+use Rattle.model.specs.Questions.{accepted, refused, first-no}
 use Rattle.deque.specs.declared.Numbers.{Numbers}
 use Rattle.engine.specs.declared.Course.{Course}
 use Rattle.engine.specs.declared.CallAnswer.{CallAnswer}
@@ -98,10 +96,10 @@ pub record IsRefusal (answer : CallAnswer) : Type 0 where
 -- the code tells the answers apart by their tags, 0 for `Accepted`
 pub refusing : (answer : CallAnswer) → OneOf (1 ∷ 2 ∷ 3 ∷ 4 ∷ 5 ∷ 6 ∷ 7 ∷ []) (tagOf the-type answer) → IsRefusal answer
 refusing Accepted h = absurd (miss (1 ∷ 2 ∷ 3 ∷ 4 ∷ 5 ∷ 6 ∷ 7 ∷ []) 0 tt h)
-refusing Finished h = record { number = 11; told = refl }
-refusing QuantumOpen h = record { number = 12; told = refl }
-refusing QuantaSpent h = record { number = 13; told = refl }
-refusing AboveDesire h = record { number = 14; told = refl }
-refusing NoQuantum h = record { number = 15; told = refl }
-refusing WrongChoiceCount h = record { number = 16; told = refl }
-refusing BadChoice h = record { number = 17; told = refl }
+refusing Finished h = record { number = _; told = refl }
+refusing QuantumOpen h = record { number = _; told = refl }
+refusing QuantaSpent h = record { number = _; told = refl }
+refusing AboveDesire h = record { number = _; told = refl }
+refusing NoQuantum h = record { number = _; told = refl }
+refusing WrongChoiceCount h = record { number = _; told = refl }
+refusing BadChoice h = record { number = _; told = refl }

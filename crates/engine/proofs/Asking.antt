@@ -1,20 +1,19 @@
 -- The questions that the code asks of numbers and flags are the model's, asked of the state that the arrays show.
 -- Assumes nothing.
-use mathlib.Core.Path.{_≡_, refl, sym, _∙_, ap}
-use mathlib.Core.Bool.{Bool, true, false, cond, not}
-use mathlib.Core.List.{List, [], _∷_}
+use mathlib.Core.Path.{_≡_, refl, _∙_}
+use mathlib.Core.Bool.{Bool, true, false, not}
+use mathlib.Core.List.{List}
 use Prim.Native.Nat.{ℕ}
-use lib.Dec.{leb, ltb, eqb}
-use lib.ListN.{length}
-use Rattle.model.specs.Tests.{every, count-set, all-set}
+use lib.Dec.{eqb}
+use Rattle.model.specs.Tests.{count-set}
 use Rattle.model.specs.Questions.{first-no}
 use Rattle.model.specs.Machine.{finished, no-quantum-open, grant-questions, tick-questions, grants, ticks, call-answer}
 use Rattle.deque.specs.declared.Numbers.{Numbers}
-use Rattle.deque.specs.View.{view, worked-view, deques-view}
+use Rattle.deque.specs.View.{view, worked-view}
 use Rattle.deque.proofs.Views.{all-counted, flags-shown, workers-shown}
 use Rattle.engine.specs.declared.Course.{Course}
 use Rattle.engine.specs.View.{quantum-view, state-view}
-use Rattle.engine.specs.Asked.{grant-asked, tick-asked, choices-below}
+use Rattle.engine.specs.Asked.{grant-asked, tick-asked}
 
 -- a quantum is open exactly where the flag says so
 pub open-shown : (b : Bool) (k : ℕ) → no-quantum-open (quantum-view b k) ≡ not b

@@ -1,21 +1,19 @@
 -- A grant of a job that calls reach: what the crate `allot` asks holds, and what it leaves is the model's grant.
 -- Assumes nothing.
 use mathlib.Core.Path.{_≡_, refl, sym, _∙_, ap}
-use mathlib.Core.Bool.{Bool, true, false, cond}
-use mathlib.Core.List.{List, [], _∷_, _++_}
-use Prim.Native.Nat.{ℕ, suc, _+_, _≤_, _<_}
+use mathlib.Core.Bool.{Bool, true, cond}
+use mathlib.Core.List.{List}
+use Prim.Native.Nat.{ℕ, suc, _<_}
 use native.Mathlib.Omega.{arith}
 use native.Mathlib.Numerals.{add-one}
 use lib.Dec.{eqb}
 use lib.ListN.{length}
-use Rattle.model.specs.Questions.{Answer, accepted, refused, by-answer, first-no}
+use Rattle.model.specs.Questions.{accepted, first-no}
 use Rattle.model.specs.Plan.{Plan}
 use Rattle.model.specs.Machine.{Execution, State, opened, Call, grants, call-answer, step}
 use Rattle.model.specs.Machine as machine
-use Rattle.laws.proofs.Steps.{GrantAccepted, grant-accepted}
+use Rattle.laws.proofs.Steps.{grant-accepted}
 use Rattle.deque.specs.declared.Numbers.{Numbers}
-use Rattle.deque.specs.View.{view, graph}
-use Rattle.deque.specs.Sound.{Sizes, Kept}
 use Rattle.deque.proofs.Views.{workers-shown}
 use Rattle.allot.specs.Grants.{Grantable, Granted}
 use Rattle.engine.specs.declared.Course.{Course}

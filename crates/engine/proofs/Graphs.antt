@@ -1,9 +1,9 @@
 -- A worker's cycle reads nothing of a plan but its successors: the graph that a plan's arrays show serves for the plan.
 -- Assumes nothing.
-use mathlib.Core.Path.{_≡_, refl, sym, _∙_, ap}
-use mathlib.Core.Bool.{Bool, true, false, cond}
+use mathlib.Core.Path.{_≡_, refl, _∙_, ap}
+use mathlib.Core.Bool.{cond}
 use mathlib.Core.List.{List, [], _∷_}
-use Prim.Native.Nat.{ℕ, zero, suc, _+_, _≤_, _<_}
+use Prim.Native.Nat.{ℕ, suc}
 use native.Mathlib.Omega.{arith}
 use Rattle.model.specs.Plan.{Plan, predecessors}
 use Rattle.model.specs.Machine.{Execution, Cycle, works-on, mugs-deque, steals-from, steals-nothing, finished, cycle-of, performed, work-cycle, released, ready, cycle, cycles}

@@ -1,19 +1,18 @@
 -- What is known of a job that calls reach: the laws of histories, said of its arrays and numbers.
 -- Assumes nothing.
-use mathlib.Core.Path.{_≡_, refl, sym, _∙_, ap}
+use mathlib.Core.Path.{_≡_, ap}
 use mathlib.Core.List.{List}
-use Prim.Native.Nat.{ℕ, _≤_, _<_}
+use Prim.Native.Nat.{ℕ, _≤_}
 use Rattle.model.specs.Plan.{Plan, tasks}
 use Rattle.model.specs.Machine.{State, Call}
-use Rattle.model.specs.History.{History, run}
-use Rattle.model.specs.Statements.{SoundPlan, DesireIsPower}
-use Rattle.laws.specs.Reached.{Arranged, Measured, Numbers as CountsFit}
-use Rattle.laws.proofs.Theorems.{arranged, measured, numbers, desire-is-power}
+use Rattle.model.specs.History.{run}
+use Rattle.model.specs.Statements.{SoundPlan}
+use Rattle.laws.specs.Reached.{Arranged, Measured, CountsFit}
+use Rattle.laws.proofs.Theorems.{arranged, measured, counts-fit, desire-is-power}
 use Rattle.plan.specs.Rules.{WithinBounds}
 use Rattle.plan.proofs.Sound.{accepted-sound, within-bounds}
 use Rattle.quantum.specs.Closing.{Power}
 use Rattle.deque.specs.declared.Numbers.{Numbers}
-use Rattle.deque.specs.View.{successors-view}
 use Rattle.deque.proofs.Views.{tasks-shown}
 use Rattle.engine.specs.declared.Course.{Course}
 use Rattle.engine.specs.View.{plan-view, state-view}
@@ -49,7 +48,7 @@ module _ {plan : Plan} {calls : List Call} {first second pending next ends : Lis
   pub known-numbers : CountsFit shown-state
   known-numbers =
       let bounds = plan-bounds (r .accepted-plan) in
-      rw (r .its-state) (numbers (plan-sound (r .accepted-plan)) calls (bounds .quantum-most) (bounds .tasks-most))
+      rw (r .its-state) (counts-fit (plan-sound (r .accepted-plan)) calls (bounds .quantum-most) (bounds .tasks-most))
 
   -- the desire is a power of R
   pub known-power : Power (c .responsiveness) (c .desire)

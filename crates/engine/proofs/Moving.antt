@@ -1,13 +1,12 @@
 -- A call takes a job to a job: one that is refused leaves it as it was, and what an accepted one makes of it is reached by one call more.
 -- Assumes nothing.
-use mathlib.Core.Path.{_≡_, refl, sym, _∙_, ap}
+use mathlib.Core.Path.{_≡_, refl, sym, _∙_}
 use mathlib.Core.List.{List, [], _∷_, _++_}
 use Prim.Native.Nat.{ℕ}
 use native.Mathlib.Omega.{arith}
-use Rattle.model.specs.Questions.{Answer, accepted, refused, by-answer, first-no}
+use Rattle.model.specs.Questions.{Answer, accepted, refused}
 use Rattle.model.specs.Plan.{Plan}
-use Rattle.model.specs.Machine.{State, Call, grants, ticks, call-answer, moved, step}
-use Rattle.model.specs.History.{run}
+use Rattle.model.specs.Machine.{Call, call-answer, step}
 use Rattle.laws.proofs.Steps.{run-state}
 use Rattle.deque.specs.declared.Numbers.{Numbers}
 use Rattle.deque.specs.View.{graph}

@@ -1,26 +1,20 @@
--- A tick of a job that calls reach: what the crate `turn` asks holds, and what its cycles leave, with the tick counted and the quantum closed
--- where it ends, is the model's tick.
+-- A tick of a job that calls reach: what the crate `turn` asks holds, and what its cycles and the tick's end leave is the model's tick.
 -- Assumes nothing.
 use mathlib.Core.Path.{_≡_, refl, sym, _∙_, ap}
-use mathlib.Core.Bool.{Bool, true, false, cond, not, _&&_, and-false}
-use mathlib.Core.List.{List, [], _∷_, _++_}
-use Prim.Native.Nat.{ℕ, zero, suc, _+_, _*_, _^_, _≤_, _<_}
+use mathlib.Core.Bool.{Bool, true, false}
+use mathlib.Core.List.{List, [], _∷_}
+use Prim.Native.Nat.{ℕ, _+_, _≤_, _<_}
 use native.Mathlib.Omega.{arith}
-use native.Mathlib.Numerals.{add-one}
-use lib.Dec.{eqb, ltb}
 use lib.ListN.{length}
-use borrow.Author.Tests.{eq-eqb, ne-eqb}
-use Rattle.model.specs.Tests.{every, count-set}
-use Rattle.model.specs.Questions.{Answer, accepted, refused, by-answer, first-no}
+use Rattle.model.specs.Questions.{accepted, first-no}
 use Rattle.model.specs.Plan.{Plan}
-use Rattle.model.specs.Machine.{Execution, State, allotment, finished, opened, closes, closed, cycles, ticked, tick, Call, ticks, call-answer, step, efficient, satisfied, next-desire}
+use Rattle.model.specs.Machine.{Execution, State, opened, cycles, ticked, tick, Call, ticks, call-answer, step}
 use Rattle.laws.specs.Reached.{OpenQuantum}
 use Rattle.laws.proofs.Steps.{TickAccepted, tick-accepted}
 use Rattle.laws.proofs.Histories.{workers-placed}
-use Rattle.quantum.specs.Closing.{Closable, Closed, Paced}
 use Rattle.deque.specs.declared.Numbers.{Numbers}
-use Rattle.deque.specs.View.{view, graph, worked-view}
-use Rattle.deque.specs.Sound.{Sizes, Kept, Sound, Room, Within}
+use Rattle.deque.specs.View.{view, graph}
+use Rattle.deque.specs.Sound.{Sizes, Kept, Sound, Room}
 use Rattle.deque.proofs.Views.{workers-shown}
 use Rattle.turn.specs.Turns.{count-limit, TickTurn, Ticked}
 use Rattle.engine.specs.declared.Course.{Course}
@@ -33,90 +27,10 @@ use Rattle.engine.specs.Courses.{counted, quantum-ended, Countable, Cour
 use Rattle.engine.specs.Reached.{Reached}
 use Rattle.engine.specs.Moves.{Moves, TickMoves}
 use Rattle.engine.proofs.Answers.{IsRefusal}
-use Rattle.engine.proofs.Asking.{finished-shown, tick-asking}
+use Rattle.engine.proofs.Asking.{tick-asking}
 use Rattle.engine.proofs.Graphs.{same-cycles, bare-sound, bare-placed}
 use Rattle.engine.proofs.Known.{known-sound, known-bounds, known-arranged, known-measured, known-numbers, known-power, few-tasks}
 use Rattle.engine.proofs.Moving.{moved-to, not-both, one-call-more, refused-moves, unchanged}
-
--- ---- the numbers beside the execution
-
--- the tick counted
-abbrev pub counted-course : Course → Course
-counted-course c =
-    record {
-      responsiveness = c .responsiveness;
-      utilization = c .utilization;
-      «quantum_length» = c .«quantum_length»;
-      desire = c .desire;
-      started = c .started;
-      «is_open» = c .«is_open»;
-      ticks = c .ticks + 1;
-      begun = c .begun;
-    }
-
--- the quantum closed besides, with the next desire
-abbrev pub closed-course : Course → ℕ → Course
-closed-course c desire =
-    record {
-      responsiveness = c .responsiveness;
-      utilization = c .utilization;
-      «quantum_length» = c .«quantum_length»;
-      desire = desire;
-      started = c .started;
-      «is_open» = false;
-      ticks = c .ticks + 1;
-      begun = c .begun;
-    }
-
-module _ (m : Numbers) (c : Course) (is-open : c .«is_open» ≡ true) where
-  -- where the quantum does not end
-  stays-open : (first second pending next ends : List ℕ) →
-      closes (plan-view first second (m .tasks) c) (counted (view pending next ends m) c) ≡ false →
-      state-view pending next ends m (counted-course c)
-      ≡ quantum-ended (plan-view first second (m .tasks) c) (counted (view pending next ends m) c)
-  unfolding state-view quantum-ended
-  stays-open first second pending next ends h = rw (h, is-open, add-one) refl
-
-  -- the job is finished: the quantum never closes
-  pub finished-ticked : m .done ≡ m .tasks → CourseTicked m c (counted-course c)
-  unfolding closes plan-view
-  finished-ticked all-done =
-      record {
-        same-plan = λ first second tasks. refl;
-        shows = λ first second pending next ends right.
-            stays-open first second pending next ends
-            (rw (finished-shown pending next ends m right, eq-eqb (m .done) (m .tasks) all-done) refl);
-      }
-
-  -- more ticks are due
-  pub unclosed-ticked : (c .ticks + 1 ≡ c .«quantum_length» → ⊥) → CourseTicked m c (counted-course c)
-  unfolding closes plan-view
-  unclosed-ticked more =
-      record {
-        same-plan = λ first second tasks. refl;
-        shows = λ first second pending next ends right.
-            stays-open first second pending next ends
-            (rw (ne-eqb (suc (c .ticks)) (c .«quantum_length») (λ h. more (add-one (c .ticks) ∙ h))) (and-false (not (finished (view pending next ends m)))));
-      }
-
-  -- the quantum closes
-  pub closed-ticked : (m .done ≡ m .tasks → ⊥) → c .ticks + 1 ≡ c .«quantum_length» → (desire : ℕ) →
-      Closed (c .responsiveness) (c .utilization) (c .«quantum_length») (c .desire) (m .workers) (m .usage) desire →
-      CourseTicked m c (closed-course c desire)
-  unfolding state-view quantum-ended closes closed plan-view
-  closed-ticked undone last desire after =
-      record {
-        same-plan = λ first second tasks. refl;
-        shows = λ first second pending next ends right.
-            rw (
-              finished-shown pending next ends m right,
-              ne-eqb (m .done) (m .tasks) undone,
-              eq-eqb (suc (c .ticks)) (c .«quantum_length») (sym (add-one (c .ticks)) ∙ last),
-              workers-shown,
-              after .next (plan-view first second (m .tasks) c) refl (record { at-utilization = refl; at-length = refl }),
-            )
-            refl;
-      }
 
 -- ---- an accepted tick
 

@@ -13,7 +13,7 @@ use Rattle.engine.specs.declared.Course.{Course}
 abbrev pub unfinished : Numbers → Bool
 unfinished m = not (eqb (m .done) (m .tasks))
 
--- 11 to 14
+-- a grant, 11 to 14
 unfoldable pub grant-asked : Numbers → Course → ℕ → List Question
 grant-asked m c g =
     ask (unfinished m) 11 ∷ ask (not (c .«is_open»)) 12
@@ -25,7 +25,7 @@ grant-asked m c g =
 abbrev pub choices-below : List ℕ → ℕ → Bool
 choices-below choices workers = every (λ choice. ltb choice workers) choices
 
--- 11 and 15 to 17
+-- a tick, 11 and 15 to 17
 unfoldable pub tick-asked : Numbers → Course → List ℕ → List Question
 tick-asked m c choices =
     ask (unfinished m) 11 ∷ ask (c .«is_open») 15

@@ -1,20 +1,20 @@
 -- How many deques and how many tasks there are: the non-empty deques and the muggable ones number no more than before a worker's cycle,
 -- because a steal happens only when no muggable deque waits; and all deques of a placed execution together hold at most N tasks.
 -- Assumes nothing.
-use mathlib.Core.Path.{_≡_, refl, sym, ap, _∙_}
-use mathlib.Core.Bool.{Bool, true, false, cond, not}
+use mathlib.Core.Path.{_≡_, refl, ap, _∙_}
+use mathlib.Core.Bool.{Bool, true, false, cond}
 use mathlib.Core.List.{List, [], _∷_, _++_, tail, List·Memᴰ, List·Memᴰ·head, List·Memᴰ·tail}
 use Prim.Native.Nat.{ℕ, zero, suc, _+_, _≤_, _<_}
-use native.Mathlib.Nat.{le-of-suc-le-suc, not-suc-le-zero}
+use native.Mathlib.Nat.{not-suc-le-zero}
 use native.Mathlib.Omega.{arith}
 use lib.Dec.{eqb}
 use lib.ListN.{length, getD, set, length-set, length-append}
-use borrow.Author.Tests.{eqb-true, eqb-false, eq-eqb, ne-eqb}
+use borrow.Author.Tests.{eqb-false}
 use Rattle.model.specs.Plan.{Plan, tasks}
 use Rattle.model.specs.Machine.{Execution, deque-of, completed, released, left-by-steal, taken-by-steal, work-cycle, mug-cycle, successful-steal, failed-steal, cycle, cycles}
-use Rattle.laws.specs.Invariants.{occurrences, in-deques, busy, Placed, Bounded}
-use Rattle.laws.proofs.Lists.{one-if-filled, one-at-most, busy-set, busy-at-most, occurrences-append, occurs, found}
-use Rattle.laws.proofs.Cycles.{Kinds, cycle-cases, cycle-allotment, cycles-keep}
+use Rattle.laws.specs.Invariants.{occurrences, in-deques, Placed, Bounded}
+use Rattle.laws.proofs.Lists.{one-if-filled, one-at-most, busy-set, busy-at-most, occurrences-append, occurs}
+use Rattle.laws.proofs.Cycles.{cycle-cases, cycles-keep}
 use Rattle.laws.proofs.Placement.{stands, standing-once}
 
 -- ---- deques

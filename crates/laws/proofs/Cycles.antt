@@ -1,10 +1,10 @@
 -- A worker's cycle by its four kinds, with what is known of the execution in each (`cycle-cases`); the lengths that a cycle keeps; and what
 -- every cycle keeps is kept by a tick's cycles (`cycles-keep`, and `cycles-made-keep` for what speaks of the cycles made too).
 -- Assumes nothing.
-use mathlib.Core.Path.{_≡_, refl, sym, ap, _∙_}
+use mathlib.Core.Path.{_≡_, refl, _∙_}
 use mathlib.Core.Bool.{Bool, true, false, cond}
 use mathlib.Core.List.{List, [], _∷_, _++_, append-nil, append-assoc}
-use Prim.Native.Nat.{ℕ, zero, suc, _+_, _≤_, _<_}
+use Prim.Native.Nat.{ℕ, suc, _+_, _≤_, _<_}
 use native.Mathlib.Omega.{arith}
 use lib.Dec.{leb}
 use lib.ListN.{length, length-set}

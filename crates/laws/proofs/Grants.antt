@@ -2,22 +2,22 @@
 -- most the largest count granted.
 -- Assumes nothing.
 use mathlib.Core.Path.{_≡_, refl, sym, ap, _∙_}
-use mathlib.Core.Bool.{Bool, true, false, cond, not, _&&_}
-use mathlib.Core.List.{List, [], _∷_, _++_}
-use Prim.Native.Nat.{ℕ, zero, suc, _+_, _-_, _≤_, _<_, max}
+use mathlib.Core.Bool.{Bool, true, false, cond}
+use mathlib.Core.List.{List, [], _∷_}
+use Prim.Native.Nat.{ℕ, zero, suc, _+_, _-_, _≤_, max}
 use native.Mathlib.Nat.{not-suc-le-zero, sub-zero}
 use native.Mathlib.Omega.{arith}
 use lib.Dec.{eqb, ltb}
-use lib.ListN.{length, getD, take, drop, replicate, length-append, length-take, length-replicate}
+use lib.ListN.{length, take, drop, replicate, length-append, length-take, length-replicate}
 use borrow.Author.Tests.{ltb-true, ltb-false, ne-eqb}
-use Rattle.model.specs.Tests.{every, keep, is-empty}
+use Rattle.model.specs.Tests.{every, keep}
 use Rattle.model.specs.Plan.{Plan, tasks}
-use Rattle.model.specs.Machine.{Execution, State, allotment, kept-deques, withdrawn-deques, first-task-placed, place-first-task, grant, ready}
+use Rattle.model.specs.Machine.{State, allotment, kept-deques, withdrawn-deques, first-task-placed, place-first-task, grant}
 use Rattle.model.specs.Statements.{SoundPlan}
 use Rattle.laws.specs.Invariants.{occurrences, in-deques, busy, waiting-work, Placed, Bounded}
-use Rattle.laws.specs.Reached.{Unstarted, Arranged}
+use Rattle.laws.specs.Reached.{Unstarted}
 use Rattle.laws.proofs.Lists.{true-is-not-false, non-empty, in-deques-append, in-deques-split, in-deques-non-empty, in-deques-empty, busy-append, busy-split, busy-non-empty, busy-empty, every-append, kept-passes, none-set}
-use Rattle.laws.proofs.Readiness.{Waits, is-waiting, first-ready, others-not-ready, not-waiting-unready, not-waiting-outside}
+use Rattle.laws.proofs.Readiness.{is-waiting, first-ready, others-not-ready, not-waiting-unready, not-waiting-outside}
 
 -- ---- kept and withdrawn deques
 

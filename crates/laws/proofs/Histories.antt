@@ -1,24 +1,22 @@
 -- What holds after any list of calls, refused ones included, by one induction: where the tasks stand (`arranged`), that the deques number at most
--- the largest count granted so far (`largest-bounds`) and at most 64, and how large each count can be (`measured`, `numbers`).
+-- the largest count granted so far (`largest-bounds`) and at most 64, and how large each count can be (`measured`, `counts-fit`).
 -- Assumes nothing.
 use mathlib.Core.Path.{_≡_, refl, sym, ap, _∙_}
 use mathlib.Core.Bool.{Bool, true, false, cond, not, _&&_}
 use mathlib.Core.List.{List, [], _∷_, _++_}
-use Prim.Native.Nat.{ℕ, zero, suc, _+_, _*_, _/_, _≤_, _<_, max}
-use native.Mathlib.Nat.{not-suc-le-zero, mul-suc, mul-le-mul, mul-le-mul-left, div-le-self, le-trans}
+use Prim.Native.Nat.{ℕ, zero, suc, _+_, _*_, _≤_, max}
+use native.Mathlib.Nat.{mul-suc, mul-le-mul, div-le-self}
 use native.Mathlib.Omega.{arith}
 use lib.Dec.{eqb, leb}
-use lib.ListN.{length, getD, replicate, length-replicate}
+use lib.ListN.{length, length-replicate}
 use borrow.Author.Tests.{eqb-false, ne-eqb, leb-true}
-use Rattle.model.specs.Tests.{count-set}
 use Rattle.model.specs.Plan.{Plan, tasks}
-use Rattle.model.specs.Machine.{Execution, State, allotment, Quantum, idle, opened, ticks-of, fresh, grant, cycles, cycles-made, tick, ticked, closes, closed, finished, most-workers, quantum-limit, next-desire, lowered, raised, Call, efficient-now, satisfied-now}
+use Rattle.model.specs.Machine.{Execution, State, allotment, idle, opened, ticks-of, fresh, grant, cycles, cycles-made, tick, ticked, closes, closed, finished, most-workers, next-desire, Call, efficient-now, satisfied-now}
 use Rattle.model.specs.History.{ClosedQuantum, CurrentQuantum, none, begun-with, History, beginning, history-grant, history-tick, verdict, run}
 use Rattle.model.specs.Statements.{SoundPlan}
 use Rattle.laws.specs.Invariants.{busy, Placed, Bounded, Tallied}
-use Rattle.laws.specs.Reached.{Unstarted, Arranged, granted-in, largest-closed, largest-granted, OpenQuantum, Measured, Numbers}
-use Rattle.laws.specs.Meaning.{works-in, mugs-in, steals-in, successes-in}
-use Rattle.laws.proofs.Lists.{true-is-not-false, count-set-none, count-set-at-most, both}
+use Rattle.laws.specs.Reached.{Unstarted, Arranged, granted-in, largest-closed, largest-granted, OpenQuantum, Measured, CountsFit}
+use Rattle.laws.proofs.Lists.{true-is-not-false, count-set-none, count-set-at-most}
 use Rattle.laws.proofs.Cycles.{cycles-allotment}
 use Rattle.laws.proofs.Placement.{cycles-placed, cycles-tallied}
 use Rattle.laws.proofs.Bounds.{bounded-more, cycles-bounded}
@@ -263,7 +261,7 @@ module _ {plan : Plan} (sound : SoundPlan plan) where
             record {
               within = omega arith;
               unclosed = λ f. omega (arith, sound .timed);
-              satisfiable = omega (arith, grant-allotment g s, t .wanted);
+              granted = omega (arith, grant-allotment g s, t .wanted);
               usage-so-far = omega arith;
               room = omega (arith, m .cycles-at-most);
             };
@@ -296,7 +294,7 @@ module _ {plan : Plan} (sound : SoundPlan plan) where
             record {
               within = omega arith;
               unclosed = λ f. omega (arith, not-yet c f);
-              satisfiable = omega (arith, same-allotment, o .satisfiable);
+              granted = omega (arith, same-allotment, o .granted);
               usage-so-far = omega (arith, used, o .usage-so-far, few);
               room = omega (arith, spent, o .room, few);
             };
@@ -367,8 +365,8 @@ module _ {plan : Plan} (sound : SoundPlan plan) where
 
 -- ---- in numbers
 
-pub numbers-of : {plan : Plan} {s : State} → plan .quantum-length ≤ 65535 → tasks plan ≤ 1024 → Arranged plan s → Measured plan s → Numbers s
-numbers-of {plan} {s} short small a m =
+pub counts-fit-of : {plan : Plan} {s : State} → plan .quantum-length ≤ 65535 → tasks plan ≤ 1024 → Arranged plan s → Measured plan s → CountsFit s
+counts-fit-of {plan} {s} short small a m =
     let product = mul-le-mul short (m .quanta) in
     record {
       work = omega (arith, work-at-most a);
@@ -378,6 +376,6 @@ numbers-of {plan} {s} short small a m =
       begun = m .quanta;
     }
 
-pub numbers : {plan : Plan} → SoundPlan plan → plan .quantum-length ≤ 65535 → tasks plan ≤ 1024 → (calls : List Call) →
-    Numbers (run plan calls .state)
-numbers sound short small calls = numbers-of short small (arranged sound calls) (measured sound calls)
+pub counts-fit : {plan : Plan} → SoundPlan plan → plan .quantum-length ≤ 65535 → tasks plan ≤ 1024 → (calls : List Call) →
+    CountsFit (run plan calls .state)
+counts-fit sound short small calls = counts-fit-of short small (arranged sound calls) (measured sound calls)

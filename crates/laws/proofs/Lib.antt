@@ -1,21 +1,23 @@
 -- The proofs, by topic. Theorems has every law of a history on one page: a stranger reads it first.
--- Lists, Readiness: lists, and when a task is ready. Cycles, Placement, Bounds, Grants: what a cycle and a grant keep.
--- Steps, Runs: how a property is carried through a list of calls. Histories: where the tasks stand and how large the counts are after any calls.
--- Progress: some worker works or mugs. Order: each task once and in order. Meaning: what the counts count.
+-- Lists, Readiness, Awaiting: lists and flags, when a task is ready, and how many predecessors it still awaits.
+-- Cycles, Placement, Bounds, Grants: what a worker's cycle, a tick's cycles and a grant keep.
+-- Steps, Runs: accepted calls, and how a property is carried through a list of calls. Histories: where the tasks stand and how large the
+-- counts are after any calls. Progress: some worker works or mugs. Order: each task once and in order. Meaning: what the counts count.
 -- Counting: what a tick and a grant do to the counts. Powers: the open quantum, and what a quantum's end does to the desire.
 -- PairingLaw: the partners of the inefficient quanta. MugLimitLaw: the balance that bounds the mugs. Carried: these in one induction.
 pub mod Lists
 pub mod Readiness
+pub mod Awaiting
 pub mod Cycles
 pub mod Placement
 pub mod Bounds
 pub mod Steps
-pub mod Runs
 pub mod Meaning
 pub mod Grants
 pub mod Histories
 pub mod Progress
 pub mod Order
+pub mod Runs
 pub mod Counting
 pub mod Powers
 pub mod PairingLaw

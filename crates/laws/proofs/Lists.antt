@@ -1,15 +1,15 @@
 -- Lists of numbers, of deques and of flags: how often a task stands in them, how many deques are not empty, what tests over a whole list say.
 -- Assumes nothing.
 use mathlib.Core.Path.{_≡_, refl, sym, ap, _∙_}
-use mathlib.Core.Logic.{_↔_, _⊎_, inl, inr}
+use mathlib.Core.Logic.{_⊎_, inl, inr}
 use mathlib.Core.Bool.{Bool, true, false, cond, not, _&&_}
 use mathlib.Core.List.{List, [], _∷_, _++_, List·Memᴰ, List·Memᴰ·head, List·Memᴰ·tail, List·Memᴰ·not-nil, List·Memᴰ·cases-cons, List·Memᴰ·append-cases, Memᴰ·append-left, Memᴰ·append-right, List·Memᴰ·eq-of-singleton}
-use Prim.Native.Nat.{ℕ, zero, suc, _+_, _-_, _≤_, _<_}
+use Prim.Native.Nat.{ℕ, zero, suc, _+_, _≤_, _<_}
 use native.Mathlib.Nat.{le-of-suc-le-suc, not-suc-le-zero}
 use native.Mathlib.Omega.{arith}
-use lib.Dec.{eqb, ltb, leb}
-use lib.ListN.{length, getD, take, drop, set, replicate, take-append-drop, length-append, length-set}
-use borrow.Author.Tests.{eqb-true, eqb-false, eq-eqb, ne-eqb}
+use lib.Dec.{eqb}
+use lib.ListN.{length, getD, take, drop, set, replicate, take-append-drop}
+use borrow.Author.Tests.{eqb-true, eqb-false, eq-eqb}
 use Rattle.model.specs.Tests.{below, every, keep, is-empty, member, count-set, all-set}
 use Rattle.laws.specs.Invariants.{occurrences, in-deques, busy}
 
@@ -27,10 +27,6 @@ same-test false false f g = refl
 pub not-true-is-false : (b : Bool) → (b ≡ true → ⊥) → b ≡ false
 not-true-is-false true h = absurd (h refl)
 not-true-is-false false h = refl
-
-pub true-or-false : (b : Bool) → (b ≡ true) ⊎ (b ≡ false)
-true-or-false true = inl refl
-true-or-false false = inr refl
 
 pub and-left : (a b : Bool) → (a && b) ≡ true → a ≡ true
 and-left true b h = refl
@@ -66,6 +62,37 @@ found t (x ∷ xs) h = go (eqb t x) refl (found t xs) h
     go : (b : Bool) → eqb t x ≡ b → (1 ≤ occurrences t xs → List·Memᴰ t xs) → 1 ≤ cond b 1 0 + occurrences t xs → List·Memᴰ t (x ∷ xs)
     go true e onward h = List·Memᴰ·head (eqb-true t x e)
     go false e onward h = List·Memᴰ·tail (onward (omega arith))
+
+-- ---- places in a list
+
+pub place-of : (t : ℕ) (xs : List ℕ) → List·Memᴰ t xs → (i : ℕ) × (i < length xs) × (getD xs i 0 ≡ t)
+place-of t (x ∷ xs) (List·Memᴰ·head e) = (zero, omega arith, sym e)
+place-of t (x ∷ xs) (List·Memᴰ·tail m) = let r = place-of t xs m in (suc (r .0), omega (arith, r .1), r .2)
+
+pub at-place : (xs : List ℕ) (i : ℕ) → i < length xs → List·Memᴰ (getD xs i 0) xs
+at-place [] i l = absurd (not-suc-le-zero l)
+at-place (x ∷ xs) zero l = List·Memᴰ·head refl
+at-place (x ∷ xs) (suc i) l = List·Memᴰ·tail (at-place xs i (le-of-suc-le-suc l))
+
+-- x stands at the head and once more
+twice : (x : ℕ) (xs : List ℕ) (j : ℕ) → j < length xs → x ≡ getD xs j 0 → occurrences x (x ∷ xs) ≤ 1 → ⊥
+unfolding occurrences
+twice x xs j l e h =
+    let more : 1 ≤ occurrences x xs = rw e (occurs (getD xs j 0) xs (at-place xs j l)) in
+    let one : cond {A = ℕ} (eqb x x) 1 0 ≡ 1 = rw (eq-eqb x x refl) refl in
+    omega arith
+
+-- where each number stands at most once its place is one
+pub place-once : (xs : List ℕ) → ((t : ℕ) → occurrences t xs ≤ 1) → (i j : ℕ) → i < length xs → j < length xs → getD xs i 0 ≡ getD xs j 0 → i ≡ j
+place-once [] h i j l m e = absurd (not-suc-le-zero l)
+place-once (x ∷ xs) h zero zero l m e = refl
+place-once (x ∷ xs) h zero (suc j) l m e = absurd (twice x xs j (le-of-suc-le-suc m) e (h x))
+place-once (x ∷ xs) h (suc i) zero l m e = absurd (twice x xs i (le-of-suc-le-suc l) (sym e) (h x))
+place-once (x ∷ xs) h (suc i) (suc j) l m e =
+    ap suc (place-once xs (λ t. fewer t) i j (le-of-suc-le-suc l) (le-of-suc-le-suc m) e)
+  where
+    fewer : (t : ℕ) → occurrences t xs ≤ 1
+    fewer t = unfold occurrences in omega (arith, h t)
 
 -- ---- membership
 

@@ -1,18 +1,18 @@
 -- The counts mean what they say: work, mug, steal and successful steals are the numbers of those cycles among the cycles made, and the nonsteal
 -- usage grows in a tick by the work and mug cycles of that tick and is 0 after a grant.
 -- Assumes nothing.
-use mathlib.Core.Path.{_≡_, refl, sym, ap, _∙_}
+use mathlib.Core.Path.{_≡_, refl}
 use mathlib.Core.Bool.{Bool, true, false, cond}
 use mathlib.Core.List.{List, [], _∷_, _++_}
-use Prim.Native.Nat.{ℕ, zero, suc, _+_, _≤_, _<_}
+use Prim.Native.Nat.{ℕ, suc, _+_, _≤_}
 use native.Mathlib.Omega.{arith}
 use lib.ListN.{length}
 use Rattle.model.specs.Plan.{Plan}
 use Rattle.model.specs.Machine.{Counts, Execution, State, Cycle, works-on, mugs-deque, steals-from, steals-nothing, work-cycle, mug-cycle, successful-steal, failed-steal, cycle, cycle-of, cycles, cycles-made, finished, fresh, grant, tick, Call}
-use Rattle.model.specs.History.{History, beginning, history-grant, history-tick, run}
-use Rattle.laws.specs.Meaning.{is-work, is-mug, is-steal, is-success, count-of, works-in, mugs-in, steals-in, successes-in, Counted, CountsMean}
-use Rattle.laws.proofs.Cycles.{Kinds, cycle-cases, cycles-made-keep}
-use Rattle.laws.proofs.Steps.{GrantAccepted, TickAccepted, tick-execution, run-keeps}
+use Rattle.model.specs.History.{History, beginning, history-grant, history-tick, history-step, run}
+use Rattle.laws.specs.Meaning.{is-work, is-mug, is-steal, is-success, count-of, works-in, mugs-in, steals-in, successes-in, Counted, CountsMean, UsageMeans}
+use Rattle.laws.proofs.Cycles.{cycle-cases, cycles-made-keep}
+use Rattle.laws.proofs.Steps.{TickAccepted, tick-execution, tick-accepted, run-keeps}
 
 pub count-of-append : (kind : Cycle → ℕ) (xs ys : List Cycle) → count-of kind (xs ++ ys) ≡ count-of kind xs + count-of kind ys
 unfolding count-of
@@ -119,3 +119,14 @@ counts-mean plan calls =
       success = omega (arith, count-of-append is-success (h .made) more, p .success, c .success);
     })
     calls
+
+pub usage-means : (plan : Plan) (h : History) → UsageMeans plan h
+unfolding history-step history-grant history-tick
+usage-means plan h =
+    record {
+      opens-at-0 = λ g yes-answer. rw yes-answer (grant-usage g (h .state));
+      grows = λ choices yes-answer. (
+        rw yes-answer (tick-counted plan choices (h .state) (tick-accepted choices (h .state) yes-answer) .nonsteal-usage),
+        rw yes-answer refl,
+      );
+    }

@@ -2,60 +2,28 @@
 -- when all tasks are worked. By induction over the cycles: a worker works a task that is ready and unworked.
 -- Assumes nothing.
 use mathlib.Core.Path.{_≡_, refl, sym, ap, _∙_}
-use mathlib.Core.Logic.{_↔_}
 use mathlib.Core.Bool.{Bool, true, false, cond, not}
-use mathlib.Core.List.{List, [], _∷_, _++_, append-nil, List·Memᴰ, List·Memᴰ·head, List·Memᴰ·tail}
+use mathlib.Core.List.{List, [], _∷_, _++_, append-nil, List·Memᴰ}
 use Prim.Native.Nat.{ℕ, zero, suc, _+_, _≤_, _<_}
-use native.Mathlib.Nat.{not-suc-le-zero, le-of-suc-le-suc}
+use native.Mathlib.Nat.{not-suc-le-zero}
 use native.Mathlib.Omega.{arith}
 use lib.Dec.{eqb}
-use lib.ListN.{length, getD, set, replicate, length-append, List·getD-append}
+use lib.ListN.{length, getD, set, length-append, List·getD-append}
 use lib.Seq.{getD-set-same, getD-set-other, getD-at}
-use borrow.Author.Tests.{eqb-true, eqb-false, eq-eqb, ne-eqb}
+use borrow.Author.Tests.{eqb-true, eqb-false, ne-eqb}
 use Rattle.model.specs.Tests.{all-set}
 use Rattle.model.specs.Plan.{Plan, tasks, predecessors}
-use Rattle.model.specs.Machine.{Execution, State, allotment, finished, completed, work-cycle, mug-cycle, successful-steal, failed-steal, Cycle, works-on, mugs-deque, steals-from, steals-nothing, cycle, cycle-of, cycles, cycles-made, fresh, grant, tick, status, Call}
+use Rattle.model.specs.Machine.{Execution, State, allotment, finished, completed, work-cycle, mug-cycle, successful-steal, failed-steal, Cycle, works-on, mugs-deque, steals-from, steals-nothing, cycle, cycle-of, cycles, cycles-made, fresh, grant, status, Call}
 use Rattle.model.specs.History.{History, beginning, history-grant, history-tick, tasks-in, work-order, run}
 use Rattle.model.specs.Statements.{SoundPlan, OnceAndInOrder, FinishedExactly}
 use Rattle.laws.specs.Invariants.{occurrences, Placed}
 use Rattle.laws.specs.Reached.{Arranged}
-use Rattle.laws.proofs.Lists.{true-is-not-false, occurrences-append, occurs, found, none-set, all-set-at, all-set-from}
+use Rattle.laws.proofs.Lists.{true-is-not-false, occurrences-append, occurs, found, none-set, all-set-at, all-set-from, place-of, place-once}
 use Rattle.laws.proofs.Readiness.{Waits, is-predecessor, ready-is}
 use Rattle.laws.proofs.Placement.{front-waits, cycle-placed}
-use Rattle.laws.proofs.Cycles.{Kinds, cycle-cases, cycles-made-keep}
+use Rattle.laws.proofs.Cycles.{cycle-cases, cycles-made-keep}
 use Rattle.laws.proofs.Histories.{fresh-arranged, grant-arranged, tick-arranged, arranged, unstarted-cycles, flags-length}
 use Rattle.laws.proofs.Steps.{GrantAccepted, TickAccepted, tick-execution, tick-started, run-keeps}
-
--- ---- places in a list
-
-place-of : (t : ℕ) (xs : List ℕ) → List·Memᴰ t xs → (i : ℕ) × (i < length xs) × (getD xs i 0 ≡ t)
-place-of t (x ∷ xs) (List·Memᴰ·head e) = (zero, omega arith, sym e)
-place-of t (x ∷ xs) (List·Memᴰ·tail m) = let r = place-of t xs m in (suc (r .0), omega (arith, r .1), r .2)
-
-at-place : (xs : List ℕ) (i : ℕ) → i < length xs → List·Memᴰ (getD xs i 0) xs
-at-place [] i l = absurd (not-suc-le-zero l)
-at-place (x ∷ xs) zero l = List·Memᴰ·head refl
-at-place (x ∷ xs) (suc i) l = List·Memᴰ·tail (at-place xs i (le-of-suc-le-suc l))
-
--- x stands at the head and once more
-twice : (x : ℕ) (xs : List ℕ) (j : ℕ) → j < length xs → x ≡ getD xs j 0 → occurrences x (x ∷ xs) ≤ 1 → ⊥
-unfolding occurrences
-twice x xs j l e h =
-    let more : 1 ≤ occurrences x xs = rw e (occurs (getD xs j 0) xs (at-place xs j l)) in
-    let one : cond {A = ℕ} (eqb x x) 1 0 ≡ 1 = rw (eq-eqb x x refl) refl in
-    omega arith
-
--- where each number stands at most once its place is one
-place-once : (xs : List ℕ) → ((t : ℕ) → occurrences t xs ≤ 1) → (i j : ℕ) → i < length xs → j < length xs → getD xs i 0 ≡ getD xs j 0 → i ≡ j
-place-once [] h i j l m e = absurd (not-suc-le-zero l)
-place-once (x ∷ xs) h zero zero l m e = refl
-place-once (x ∷ xs) h zero (suc j) l m e = absurd (twice x xs j (le-of-suc-le-suc m) e (h x))
-place-once (x ∷ xs) h (suc i) zero l m e = absurd (twice x xs i (le-of-suc-le-suc l) (sym e) (h x))
-place-once (x ∷ xs) h (suc i) (suc j) l m e =
-    ap suc (place-once xs (λ t. fewer t) i j (le-of-suc-le-suc l) (le-of-suc-le-suc m) e)
-  where
-    fewer : (t : ℕ) → occurrences t xs ≤ 1
-    fewer t = unfold occurrences in omega (arith, h t)
 
 -- ---- the work order
 

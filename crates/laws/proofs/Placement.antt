@@ -2,24 +2,23 @@
 -- can read from that (`stands`, `absent-..`, `released-stand-nowhere`, ..), and that a worker's cycle and a whole tick's cycles keep it.
 -- Assumes nothing.
 use mathlib.Core.Path.{_≡_, refl, sym, ap, _∙_}
-use mathlib.Core.Logic.{_⊎_, inl, inr}
 use mathlib.Core.Bool.{Bool, true, false, cond, not, _&&_}
 use mathlib.Core.List.{List, [], _∷_, _++_, tail, List·Memᴰ, List·Memᴰ·head}
-use Prim.Native.Nat.{ℕ, zero, suc, _+_, _-_, _≤_, _<_}
-use native.Mathlib.Nat.{le-of-suc-le-suc, not-suc-le-zero}
+use Prim.Native.Nat.{ℕ, suc, _+_, _-_, _≤_, _<_}
+use native.Mathlib.Nat.{not-suc-le-zero}
 use native.Mathlib.Omega.{arith}
-use lib.Dec.{eqb, ltb}
+use lib.Dec.{eqb}
 use lib.ListN.{length, getD, take, drop, set, length-set}
 use lib.Seq.{getD-set-same, getD-set-other, lt-length-set}
-use borrow.Author.Tests.{eqb-true, eqb-false, eq-eqb, ne-eqb, lt-ltb}
-use Rattle.model.specs.Tests.{every, keep, is-empty, member, count-set}
+use borrow.Author.Tests.{eqb-true, eqb-false, lt-ltb}
+use Rattle.model.specs.Tests.{every, keep, is-empty, member}
 use Rattle.model.specs.Plan.{Plan, tasks, successors-of}
-use Rattle.model.specs.Machine.{Execution, deque-of, ready, completed, released, left-by-steal, taken-by-steal, work-cycle, mug-cycle, successful-steal, failed-steal, Cycle, works-on, cycle, cycle-of, cycles, cycles-made, finished}
+use Rattle.model.specs.Machine.{Execution, deque-of, ready, completed, released, left-by-steal, taken-by-steal, work-cycle, mug-cycle, successful-steal, failed-steal, cycle, cycles}
 use Rattle.model.specs.Statements.{SoundPlan}
 use Rattle.laws.specs.Invariants.{occurrences, in-deques, waiting-work, Placed, Tallied}
-use Rattle.laws.proofs.Lists.{true-is-not-false, not-true-is-false, and-left, and-right, occurrences-append, occurrences-split, occurrences-keep, occurs, found, no-member, member-is, in-deques-set, one-deque, two-deques, filled-within, set-within, count-set-more}
-use Rattle.laws.proofs.Readiness.{ready-elsewhere, ready-kept, not-ready, is-ready, ready-is, above, inside, successor-once, Waits, waits, is-waiting, not-waiting-worked, not-waiting-unready, not-waiting-outside}
-use Rattle.laws.proofs.Cycles.{Kinds, cycle-cases, cycles-keep}
+use Rattle.laws.proofs.Lists.{true-is-not-false, not-true-is-false, and-right, occurrences-append, occurrences-split, occurrences-keep, occurs, no-member, member-is, in-deques-set, one-deque, two-deques, filled-within, count-set-more}
+use Rattle.laws.proofs.Readiness.{ready-elsewhere, ready-kept, not-ready, is-ready, above, inside, successor-once, Waits, waits, is-waiting, not-waiting-worked, not-waiting-unready}
+use Rattle.laws.proofs.Cycles.{cycle-cases, cycles-keep}
 
 -- ---- what a placed execution tells
 

@@ -2,31 +2,27 @@
 -- task; with a muggable deque the first worker works or mugs; without one, thieves leave every deque that has a task with a task, until its worker
 -- acts. Assumes nothing.
 use mathlib.Core.Path.{_≡_, refl, sym, ap, _∙_}
-use mathlib.Core.Logic.{_⊎_, inl, inr}
-use mathlib.Core.Bool.{Bool, true, false, cond, not}
-use mathlib.Core.List.{List, [], _∷_, _++_}
-use Prim.Native.Nat.{ℕ, zero, suc, _+_, _-_, _≤_, _<_}
+use mathlib.Core.Bool.{Bool, true, false}
+use mathlib.Core.List.{List, [], _∷_}
+use Prim.Native.Nat.{ℕ, suc, _+_, _-_, _≤_, _<_}
 use native.Mathlib.Nat.{not-suc-le-zero}
 use native.Mathlib.Omega.{arith}
 use lib.Dec.{eqb}
 use lib.ListN.{length, getD, set, take, length-take}
 use lib.Seq.{getD-set-same, getD-set-other}
 use borrow.Author.Tests.{eqb-true, eqb-false}
-use Rattle.model.specs.Tests.{all-set, member}
-use Rattle.model.specs.Questions.{Answer, accepted, by-answer}
-use Rattle.model.specs.Plan.{Plan, tasks, successors-of}
-use Rattle.model.specs.Machine.{Execution, State, allotment, deque-of, finished, ready, work-cycle, mug-cycle, successful-steal, failed-steal, left-by-steal, taken-by-steal, Cycle, cycle, cycle-of, cycles, cycles-made, Call, ticks, call-answer, tick}
-use Rattle.model.specs.History.{History, history-step, history-tick, run, work-count, mug-count}
+use Rattle.model.specs.Plan.{Plan}
+use Rattle.model.specs.Machine.{Execution, deque-of, finished, work-cycle, mug-cycle, successful-steal, failed-steal, left-by-steal, taken-by-steal, cycle, cycles, Call}
+use Rattle.model.specs.History.{history-step, history-tick, run}
 use Rattle.model.specs.Statements.{SoundPlan, Progress}
 use Rattle.laws.specs.Invariants.{occurrences, in-deques, Placed}
-use Rattle.laws.specs.Reached.{Arranged}
-use Rattle.laws.proofs.Lists.{first-unset, found, which-deque, filled-within}
+use Rattle.laws.proofs.Lists.{first-unset, which-deque, filled-within}
 use Rattle.laws.proofs.Readiness.{Waits, is-ready, above}
 use Rattle.laws.proofs.Placement.{waiting-stands}
-use Rattle.laws.proofs.Cycles.{Kinds, cycle-cases, cycle-allotment}
+use Rattle.laws.proofs.Cycles.{cycle-cases, cycle-allotment}
 use Rattle.laws.proofs.Meaning.{cycles-counted}
 use Rattle.laws.proofs.Histories.{arranged, workers-placed}
-use Rattle.laws.proofs.Steps.{TickAccepted, tick-accepted, tick-execution}
+use Rattle.laws.proofs.Steps.{tick-accepted, tick-execution}
 
 -- ---- some task waits
 

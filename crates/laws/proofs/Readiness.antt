@@ -1,22 +1,21 @@
 -- When a task is ready, over a sound plan's successors; and what working a task changes of it.
 -- Assumes nothing.
-use mathlib.Core.Path.{_≡_, refl, sym, ap, _∙_}
-use mathlib.Core.Logic.{_⊎_, inl, inr}
+use mathlib.Core.Path.{_≡_, refl, sym, _∙_}
 use mathlib.Core.Bool.{Bool, true, false, cond, not, _&&_}
-use mathlib.Core.List.{List, [], _∷_, _++_, List·Memᴰ, List·Memᴰ·head, List·Memᴰ·tail}
-use Prim.Native.Nat.{ℕ, zero, suc, _+_, _≤_, _<_}
+use mathlib.Core.List.{List, [], _∷_, List·Memᴰ, List·Memᴰ·head}
+use Prim.Native.Nat.{ℕ, _+_, _≤_, _<_}
 use native.Mathlib.Nat.{le-of-suc-le-suc, not-suc-le-zero}
 use native.Mathlib.Omega.{arith}
 use lib.Dec.{eqb, ltb}
-use lib.ListN.{length, getD, set, replicate}
+use lib.ListN.{getD, set, replicate}
 use lib.Seq.{getD-set-same, getD-set-other}
-use borrow.Author.Tests.{eqb-true, eqb-false, eq-eqb, ne-eqb, ltb-true, lt-ltb, le-ltb, not-true}
-use Rattle.model.specs.Tests.{every, keep, member, below}
+use borrow.Author.Tests.{eqb-true, eqb-false, ltb-true, lt-ltb, not-true}
+use Rattle.model.specs.Tests.{member, below}
 use Rattle.model.specs.Plan.{Plan, tasks, successors-of, predecessors}
-use Rattle.model.specs.Machine.{ready, released}
+use Rattle.model.specs.Machine.{ready}
 use Rattle.model.specs.Statements.{SoundPlan}
 use Rattle.laws.specs.Invariants.{occurrences, waiting-work}
-use Rattle.laws.proofs.Lists.{true-is-not-false, same-test, not-true-is-false, and-left, and-right, both, occurs, is-member, member-is, no-member, every-at, every-from, kept-from, kept-if, below-has, below-is, occurrences-keep, set-within, none-set}
+use Rattle.laws.proofs.Lists.{true-is-not-false, same-test, not-true-is-false, and-left, and-right, is-member, every-at, every-from, kept-from, kept-if, below-has, below-is, set-within, none-set}
 
 -- ---- predecessors
 

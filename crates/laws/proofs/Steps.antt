@@ -1,10 +1,10 @@
 -- A call of a history: what is known when its questions let it through, and what every accepted call keeps is kept by a whole list of calls,
 -- refused ones included (`run-keeps`). A step of the history is a step of its state.
 -- Assumes nothing.
-use mathlib.Core.Path.{_≡_, refl, sym, ap, _∙_}
+use mathlib.Core.Path.{_≡_, refl, ap, _∙_}
 use mathlib.Core.Bool.{Bool, true, false, cond, not}
 use mathlib.Core.List.{List, [], _∷_, _++_}
-use Prim.Native.Nat.{ℕ, zero, suc, _+_, _≤_, _<_}
+use Prim.Native.Nat.{ℕ, _≤_, _<_}
 use native.Mathlib.Omega.{arith}
 use lib.Dec.{leb, ltb, eqb}
 use lib.ListN.{length}
@@ -12,7 +12,7 @@ use borrow.Author.Tests.{ltb-true, leb-true, eqb-true, not-true}
 use Rattle.model.specs.Tests.{every}
 use Rattle.model.specs.Questions.{Answer, accepted, refused, first-no, by-answer}
 use Rattle.model.specs.Plan.{Plan}
-use Rattle.model.specs.Machine.{Execution, State, allotment, finished, Quantum, idle, opened, no-quantum-open, ticks-of, quantum-limit, grant-questions, tick-questions, Call, grants, ticks, call-answer, step, moved, grant, tick, ticked, closes, closed, cycles}
+use Rattle.model.specs.Machine.{State, allotment, finished, Quantum, idle, opened, no-quantum-open, ticks-of, quantum-limit, grant-questions, tick-questions, Call, grants, ticks, call-answer, step, grant, tick, ticked, closes, closed, cycles}
 use Rattle.model.specs.History.{History, beginning, history-grant, history-tick, history-moved, history-step, run-from, run}
 use Rattle.laws.proofs.Lists.{true-is-not-false}
 

@@ -8,8 +8,8 @@ use Rattle.model.specs.Machine.{Call}
 use Rattle.model.specs.History.{run}
 use Rattle.model.specs.Statements.{SoundPlan, Progress, Demand3, MugBound, OneIsEfficient, DesireIsPower, OnceAndInOrder, FinishedExactly}
 use Rattle.laws.specs.Invariants.{Bounded}
-use Rattle.laws.specs.Reached.{Arranged, Measured, Numbers, largest-granted}
-use Rattle.laws.specs.Meaning.{CountsMean}
+use Rattle.laws.specs.Reached.{Arranged, Measured, CountsFit, largest-granted}
+use Rattle.laws.specs.Meaning.{CountsMean, UsageMeans}
 use Rattle.laws.proofs.PairingLaw.{pairing-of}
 use Rattle.laws.proofs.MugLimitLaw.{mug-limit-of, mug-bound-of}
 use Rattle.laws.proofs.Carried.{Carried, carried}
@@ -69,9 +69,13 @@ module _ {plan : Plan} (sound : SoundPlan plan) (calls : List Call) where
   measured = Histories.measured sound calls
 
   -- the same in numbers, for fields of document 01's widths: no sum of the code can wrap
-  pub numbers : plan .quantum-length ≤ 65535 → tasks plan ≤ 1024 → Numbers (run plan calls .state)
-  numbers short small = Histories.numbers sound short small calls
+  pub counts-fit : plan .quantum-length ≤ 65535 → tasks plan ≤ 1024 → CountsFit (run plan calls .state)
+  counts-fit short small = Histories.counts-fit sound short small calls
 
   -- work, mug, steal and success count the cycles of their kind among all that the workers made
   pub counts-mean : CountsMean (run plan calls)
   counts-mean = Meaning.counts-mean plan calls
+
+  -- usage is 0 when a quantum opens, and grows by the work and mug cycles of each tick
+  pub usage-means : UsageMeans plan (run plan calls)
+  usage-means = Meaning.usage-means plan (run plan calls)

@@ -2,3 +2,4 @@
 pub mod Invariants
 pub mod Reached
 pub mod Meaning
+pub mod Awaited

@@ -1,9 +1,11 @@
 -- What the counts mean: each is the number of the cycles of its kind among the cycles that the workers made.
 use mathlib.Core.Path.{_≡_}
-use mathlib.Core.List.{List, [], _∷_}
+use mathlib.Core.List.{List, [], _∷_, _++_}
 use Prim.Native.Nat.{ℕ, _+_}
-use Rattle.model.specs.Machine.{Counts, Cycle, works-on, mugs-deque, steals-from, steals-nothing}
-use Rattle.model.specs.History.{History}
+use Rattle.model.specs.Questions.{accepted}
+use Rattle.model.specs.Plan.{Plan}
+use Rattle.model.specs.Machine.{Counts, Cycle, works-on, mugs-deque, steals-from, steals-nothing, cycles-made, grants, ticks, call-answer}
+use Rattle.model.specs.History.{History, history-step}
 
 -- a cycle counts 1 where it is of the kind, and else 0
 abbrev pub is-work : Cycle → ℕ
@@ -62,3 +64,13 @@ pub record CountsMean (h : History) : Type 0 where
   pub mug : h .state .execution .counts .mugs .mug ≡ mugs-in (h .made)
   pub steal : h .state .execution .counts .steals .steal ≡ steals-in (h .made)
   pub success : h .state .execution .counts .successes ≡ successes-in (h .made)
+
+-- the nonsteal usage is that of the quantum last opened: 0 after an accepted grant, and after an accepted tick more by the tick's work and mug
+-- cycles, which are the cycles that the tick adds to those made
+pub record UsageMeans (plan : Plan) (h : History) : Type 0 where
+  pub opens-at-0 : (g : ℕ) → call-answer (grants g) (h .state) ≡ accepted →
+      history-step plan (grants g) h .state .execution .counts .usage ≡ 0
+  pub grows : (choices : List ℕ) → call-answer (ticks choices) (h .state) ≡ accepted →
+      let more = cycles-made plan 0 choices (h .state .execution) in
+      (history-step plan (ticks choices) h .state .execution .counts .usage ≡ h .state .execution .counts .usage + (works-in more + mugs-in more))
+      × (history-step plan (ticks choices) h .made ≡ h .made ++ more)

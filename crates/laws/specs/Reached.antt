@@ -1,12 +1,12 @@
 -- What holds of every state that a history reaches, whatever the calls: where its tasks stand, how many deques there are, and how large each
 -- count can be.
 use mathlib.Core.Path.{_≡_}
-use mathlib.Core.Bool.{Bool, true, false}
-use mathlib.Core.List.{List, [], _∷_, map}
+use mathlib.Core.Bool.{true, false}
+use mathlib.Core.List.{List, [], _∷_}
 use Prim.Native.Nat.{ℕ, _+_, _*_, _≤_, _<_, max}
-use lib.ListN.{length, replicate}
+use lib.ListN.{replicate}
 use Rattle.model.specs.Plan.{Plan, tasks}
-use Rattle.model.specs.Machine.{Counts, Execution, State, allotment, Quantum, opened, finished, quantum-limit, most-workers}
+use Rattle.model.specs.Machine.{Counts, Execution, State, allotment, opened, finished, quantum-limit, most-workers}
 use Rattle.model.specs.History.{ClosedQuantum, CurrentQuantum, none, begun-with, History}
 use Rattle.laws.specs.Invariants.{Placed, Bounded, Tallied}
 
@@ -44,7 +44,7 @@ cycles-counted c = c .works .work + c .mugs .mug + c .steals .steal
 pub record OpenQuantum (plan : Plan) (s : State) (ticks : ℕ) : Type 0 where
   pub within : ticks ≤ plan .quantum-length
   pub unclosed : finished (s .execution) ≡ false → ticks < plan .quantum-length
-  pub satisfiable : allotment s ≤ s .desire
+  pub granted : allotment s ≤ s .desire
   pub usage-so-far : s .execution .counts .usage ≤ most-workers * ticks
   -- the ticks that it has not had leave room
   pub room : cycles-counted (s .execution .counts) + most-workers * plan .quantum-length
@@ -60,7 +60,7 @@ pub record Measured (plan : Plan) (s : State) : Type 0 where
   pub successful : s .execution .counts .successes ≤ s .execution .counts .steals .steal
 
 -- in numbers, for a plan whose fields have the widths of document 01: no count comes near 2^64
-pub record Numbers (s : State) : Type 0 where
+pub record CountsFit (s : State) : Type 0 where
   pub work : s .execution .counts .works .work ≤ 1024
   pub usage : s .execution .counts .usage ≤ 4194240
   pub all-cycles : cycles-counted (s .execution .counts) ≤ 274869518400

@@ -10,7 +10,7 @@ use Rattle.model.specs.Questions.{Answer, answer-number, first-no}
 use Rattle.model.specs.Plan
 use Rattle.model.specs.Plan.{Plan, plan-of, plan-answer, form-field, responsiveness-field, utilization-field, quantum-length-field, task-count, count-field, first-field, second-field}
 use Rattle.model.specs.Machine
-use Rattle.model.specs.Machine.{State, Call, grants, ticks, call-answer, step, fresh, status, grant-questions, efficient, next-desire, top-desires, desire-at, most-workers}
+use Rattle.model.specs.Machine.{State, Call, grants, ticks, call-answer, step, fresh, status, no-quantum-open, ticks-of, grant-questions, efficient, next-desire, top-desires, desire-at, most-workers}
 use Rattle.model.specs.History
 use Rattle.model.specs.History.{ClosedQuantum, CurrentQuantum, none, begun-with, run, work-order}
 use Rattle.model.specs.Log
@@ -103,6 +103,10 @@ refusal bytes = answer-number (plan-answer bytes) ∷ []
 
 after-calls : List ℕ → List Call → State
 after-calls bytes calls = run-calls (plan-of bytes) calls (record { state = fresh (plan-of bytes); refusals = 0 }) .state
+
+-- whether a quantum is open, and its ticks
+quantum-kept : State → List ℕ
+quantum-kept s = cond (no-quantum-open (s .quantum)) 0 1 ∷ ticks-of (s .quantum) ∷ []
 
 -- the ten numbers after a log
 shown : List ℕ → List ℕ → List ℕ
@@ -297,6 +301,8 @@ tick-rows =
     ∷ row (shown (seven 1) (1 ∷ 0x81 ∷ 0 ∷ 2 ∷ 0x82 ∷ 0 ∷ 1 ∷ [])) (1 ∷ 2 ∷ 7 ∷ 1 ∷ 2 ∷ 2 ∷ 0 ∷ 1 ∷ 0 ∷ 0 ∷ [])
     -- the finishing round is not classified, also in its L-th tick
     ∷ row (shown (one-task 1) (1 ∷ 0x81 ∷ 0 ∷ [])) (3 ∷ 1 ∷ 1 ∷ 1 ∷ 1 ∷ 1 ∷ 0 ∷ 0 ∷ 0 ∷ 0 ∷ [])
+    -- a finished job keeps its round open, the finishing tick counted
+    ∷ row (quantum-kept (after-calls (one-task 1) (grants 1 ∷ ticks (0 ∷ []) ∷ []))) (1 ∷ 1 ∷ [])
     ∷ []
 
 -- round's end
@@ -327,6 +333,8 @@ log-rows : List Row
 log-rows =
     -- a refused tick's choices are no entries
     row (shown plan-a (1 ∷ 0x82 ∷ 1 ∷ 1 ∷ 0x81 ∷ 0 ∷ [])) (1 ∷ 1 ∷ 4 ∷ 1 ∷ 1 ∷ 1 ∷ 0 ∷ 0 ∷ 0 ∷ 1 ∷ [])
+    -- a tick of 127 choices is read as it stands, and refused by 16
+    ∷ row (shown plan-a (0x01 ∷ 0xff ∷ [] ++ replicate 127 0 ++ (0x81 ∷ 0x00 ∷ []))) (1 ∷ 1 ∷ 4 ∷ 1 ∷ 1 ∷ 1 ∷ 0 ∷ 0 ∷ 0 ∷ 1 ∷ [])
     -- a grant byte is read as it stands
     ∷ row (shown plan-a (0x7f ∷ 0x41 ∷ [])) (0 ∷ 0 ∷ 4 ∷ 1 ∷ 0 ∷ 0 ∷ 0 ∷ 0 ∷ 0 ∷ 2 ∷ [])
     ∷ row (answer-number (log-answer (1 ∷ 0x81 ∷ [])) ∷ answer-number (log-answer (1 ∷ 0x82 ∷ 0 ∷ [])) ∷ answer-number (log-answer (1 ∷ 0x80 ∷ [])) ∷ answer-number (log-answer []) ∷ []) (18 ∷ 18 ∷ 0 ∷ 0 ∷ [])
@@ -368,7 +376,7 @@ rows = document-rows ++ our-rows
 
 -- every row holds
 pub table : failing 0 rows ≡ []
-unfolding same row-holds failing plan-a task plan-bytes diamond one-task seven easy-seven ten link chain refusal after-calls shown answered listed placed labelled document-rows seven-tasks header-fields task-fields fresh-with quantum-shown current-shown history-shown shown-twice statuses-from statuses plan-rows grant-rows tick-rows quantum-rows log-rows program-rows our-rows rows below every keep member count-set all-set first-no flatMap Plan.predecessors Plan.number Plan.header Plan.task-bits Plan.successor-fields Plan.plan-of Plan.fields-ok Plan.two-differ Plan.targets-ok Plan.task-questions Plan.all-preceded Plan.one-exit Plan.header-questions Plan.graph-questions Plan.plan-questions Plan.plan-answer Machine.finished Machine.fresh Machine.grant-questions Machine.kept-deques Machine.withdrawn-deques Machine.first-task-placed Machine.grant Machine.tick-questions Machine.cycle-of Machine.ready Machine.released Machine.left-by-steal Machine.taken-by-steal Machine.work-cycle Machine.mug-cycle Machine.successful-steal Machine.failed-steal Machine.cycle Machine.cycles Machine.cycles-made Machine.ticked Machine.efficient Machine.satisfied Machine.next-desire Machine.closes Machine.closed Machine.tick Machine.top-desires Machine.call-answer Machine.step Machine.status History.beginning History.history-grant History.history-tick History.history-step History.run-from History.run History.tasks-in Log.entries-up-to Log.entries Log.run-calls Log.run-log Log.log-answer Label.lines-from Label.lines Label.label-answer Label.label Counters.decimal-up-to Counters.decimal Counters.spaced Counters.counters Counters.counters-line Counters.counters-answer Counters.buffer-after Program.plan-length Program.plan-part Program.log-part Program.input-questions Program.refused-line Program.log-output Program.program
+unfolding same row-holds failing plan-a task plan-bytes diamond one-task seven easy-seven ten link chain refusal after-calls quantum-kept shown answered listed placed labelled document-rows seven-tasks header-fields task-fields fresh-with quantum-shown current-shown history-shown shown-twice statuses-from statuses plan-rows grant-rows tick-rows quantum-rows log-rows program-rows our-rows rows below every keep member count-set all-set first-no flatMap Plan.predecessors Plan.number Plan.header Plan.task-bits Plan.successor-fields Plan.plan-of Plan.fields-ok Plan.two-differ Plan.targets-ok Plan.task-questions Plan.all-preceded Plan.one-exit Plan.header-questions Plan.graph-questions Plan.plan-questions Plan.plan-answer Machine.finished Machine.fresh Machine.grant-questions Machine.kept-deques Machine.withdrawn-deques Machine.first-task-placed Machine.grant Machine.tick-questions Machine.cycle-of Machine.ready Machine.released Machine.left-by-steal Machine.taken-by-steal Machine.work-cycle Machine.mug-cycle Machine.successful-steal Machine.failed-steal Machine.cycle Machine.cycles Machine.cycles-made Machine.ticked Machine.efficient Machine.satisfied Machine.next-desire Machine.closes Machine.closed Machine.tick Machine.top-desires Machine.call-answer Machine.step Machine.status History.beginning History.history-grant History.history-tick History.history-step History.run-from History.run History.tasks-in Log.entries-up-to Log.entries Log.run-calls Log.run-log Log.log-answer Label.lines-from Label.lines Label.label-answer Label.label Counters.decimal-up-to Counters.decimal Counters.spaced Counters.counters Counters.counters-line Counters.counters-answer Counters.buffer-after Program.plan-length Program.plan-part Program.log-part Program.input-questions Program.refused-line Program.log-output Program.program
 table = refl
 
 -- ---- the table of the six top desires: one test over all of its entries

@@ -1,12 +1,13 @@
 -- Laws of `first-no`: the first "no" of a list of questions.
 use mathlib.Core.Path.{_≡_, refl, sym, _∙_, ap}
 use mathlib.Core.Bool.{Bool, true, false, cond}
-use mathlib.Core.Logic.{_⊎_, inl, inr, ⊎-elim}
+use mathlib.Core.Logic.{_⊎_, ⊎-elim}
 use mathlib.Core.List.{List, [], _∷_, _++_, flatMap}
 use Prim.Native.Nat.{ℕ, zero, suc, _≤_, _<_}
 use native.Mathlib.Omega.{arith}
 use Rattle.model.specs.Tests.{below}
 use Rattle.model.specs.Questions.{Question, Answer, accepted, refused, ask, first-no}
+use Rattle.plan.specs.Answers.{passes}
 use Rattle.plan.proofs.Lists.{flatMap-below, last-or-below}
 
 -- an answer, and where it is acceptance another
@@ -30,6 +31,19 @@ first-accepted (refused n) b h = h
 pub second-accepted : (a b : Answer) → and-then a b ≡ accepted → b ≡ accepted
 second-accepted accepted b h = h
 second-accepted (refused n) b h = let z : _≡_ {A = ℕ} 0 1 = cc in absurd (omega arith)
+
+-- acceptance, as a test
+pub passes-is : (a : Answer) → passes a ≡ true → a ≡ accepted
+passes-is accepted h = refl
+passes-is (refused n) h = let z : _≡_ {A = ℕ} 0 1 = cc in absurd (omega arith)
+
+pub passes-not : (a : Answer) → passes a ≡ false → a ≡ accepted → ⊥
+passes-not a h e = let z : _≡_ {A = Bool} true false = sym (ap passes e) ∙ h in let w : _≡_ {A = ℕ} 0 1 = cc in omega arith
+
+-- after a refusal nothing more is asked
+pub stops : (a b c : Answer) → a ≡ b → passes a ≡ false → a ≡ and-then b c
+stops a accepted c e fails = absurd (passes-not a fails e)
+stops a (refused n) c e fails = e
 
 -- a question first: it holds, and so do the others
 pub ask-accepted : (b : Bool) (n : ℕ) (qs : List Question) → first-no (ask b n ∷ qs) ≡ accepted → (b ≡ true) × (first-no qs ≡ accepted)

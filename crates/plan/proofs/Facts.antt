@@ -1,15 +1,15 @@
 -- What the questions say as facts: of the header, of one task's fields and of its successors.
 use mathlib.Core.Path.{_≡_, refl, sym, _∙_, ap}
-use mathlib.Core.Bool.{Bool, true, false, cond, not, _&&_}
-use mathlib.Core.List.{List, [], _∷_, map, List·Memᴰ, List·Memᴰ·head, List·Memᴰ·tail, List·Memᴰ·not-nil}
+use mathlib.Core.Bool.{true, false, not, _&&_}
+use mathlib.Core.List.{List, [], _∷_, List·Memᴰ}
 use Prim.Native.Nat.{ℕ, zero, suc, _+_, _*_, _≤_, _<_}
 use native.Mathlib.Omega.{arith}
-use borrow.Author.Tests.{ltb-true, leb-true, eqb-true, eqb-false, lt-ltb, le-leb, eq-eqb, ne-eqb, not-true}
+use borrow.Author.Tests.{ltb-true, leb-true, eqb-true, lt-ltb, le-leb, eq-eqb, ne-eqb, not-true}
 use lib.Dec.{leb, ltb, eqb}
-use lib.ListN.{length, getD, length-map}
+use lib.ListN.{length, length-map}
 use Rattle.model.specs.Tests.{below, every}
-use Rattle.model.specs.Questions.{Answer, accepted, ask, first-no}
-use Rattle.model.specs.Plan.{Plan, tasks, successors-of, form-field, responsiveness-field, utilization-field, quantum-length-field, task-count, count-field, first-field, second-field, used-fields, successor-fields, plan-of, fields-ok, two-differ, targets-ok, task-questions, header-questions}
+use Rattle.model.specs.Questions.{accepted, first-no}
+use Rattle.model.specs.Plan.{tasks, successors-of, form-field, responsiveness-field, utilization-field, quantum-length-field, task-count, count-field, first-field, second-field, used-fields, successor-fields, plan-of, fields-ok, two-differ, targets-ok, task-questions, header-questions}
 use Rattle.plan.proofs.Lists.{length-below, getD-map-below, every-at, every-holds, first-holds, second-holds, both-hold}
 use Rattle.plan.proofs.Asked.{ask-accepted, two-accepted}
 

@@ -1,16 +1,16 @@
 -- Laws of `below`, `every`, `keep` and `member` of model, and of `flatMap`.
 use mathlib.Core.Path.{_≡_, refl, sym, _∙_, ap}
-use mathlib.Core.Bool.{Bool, true, false, cond, _&&_}
+use mathlib.Core.Bool.{Bool, true, false, cond, _&&_, and-true, and-assoc}
 use mathlib.Core.Logic.{_⊎_, inl, inr, ⊎-elim}
 use mathlib.Core.List.{List, [], _∷_, _++_, map, flatMap, append-assoc, List·Memᴰ, List·Memᴰ·head, List·Memᴰ·tail, List·Memᴰ·not-nil, List·Memᴰ·cases-cons, List·Memᴰ·append-cases, Memᴰ·append-left, Memᴰ·append-right, List·Memᴰ·eq-of-singleton}
 use Prim.Native.Nat.{ℕ, zero, suc, _+_, _≤_, _<_}
 use native.Mathlib.Omega.{arith}
 use native.Mathlib.Numerals.{add-one}
-use borrow.Author.Tests.{eqb-true, eqb-false, eq-eqb, ne-eqb}
+use borrow.Author.Tests.{eqb-true, eqb-false, ne-eqb}
 use lib.Dec.{eqb}
-use lib.ListN.{length, getD, drop, length-append, length-map, List·getD-append, length-drop, drop-of-length-le}
-use lib.Seq.{getD-append-seam, drop-append-le, getD-at}
-use Rattle.model.specs.Tests.{below, every, keep, is-empty, member}
+use lib.ListN.{length, getD, drop, length-append, length-map, List·getD-append}
+use lib.Seq.{drop-append-le, getD-at}
+use Rattle.model.specs.Tests.{below, every, keep, member}
 
 -- ---- tests
 
@@ -154,6 +154,21 @@ module _ {A : Type 0} where
       (λ l. second-fails (test y) (every-fails test ys x l h))
       (List·Memᴰ·cases-cons m)
 
+  pub every-cong : (f g : A → Bool) (xs : List A) → ((x : A) → List·Memᴰ x xs → f x ≡ g x) → every f xs ≡ every g xs
+  unfolding every
+  every-cong f g [] h = refl
+  every-cong f g (x ∷ xs) h = cc (h x (List·Memᴰ·head refl), every-cong f g xs (λ y m. h y (List·Memᴰ·tail m)))
+
+  pub every-append : (test : A → Bool) (xs : List A) (x : A) → every test (xs ++ (x ∷ [])) ≡ (every test xs && test x)
+  unfolding every
+  every-append test [] x = and-true (test x)
+  every-append test (y ∷ ys) x = ap (λ b. test y && b) (every-append test ys x) ∙ sym (and-assoc (test y) (every test ys) (test x))
+
+-- one number more
+pub every-below : (test : ℕ → Bool) (n : ℕ) → every test (below (suc n)) ≡ (every test (below n) && test n)
+unfolding below
+every-below test n = every-append test (below n) n
+
 -- ---- keep and member
 
 pub keep-append : (test : ℕ → Bool) (xs ys : List ℕ) → keep test (xs ++ ys) ≡ keep test xs ++ keep test ys
@@ -200,3 +215,13 @@ member-mem x (y ∷ ys) h = by (λ l. member-mem x ys l) (eqb x y) refl h
     by : (member x ys ≡ true → List·Memᴰ x ys) → (b : Bool) → eqb x y ≡ b → cond b true (member x ys) ≡ true → List·Memᴰ x (y ∷ ys)
     by rest true e l = List·Memᴰ·head (eqb-true x y e)
     by rest false e l = List·Memᴰ·tail (rest l)
+
+pub keep-none : (test : ℕ → Bool) (xs : List ℕ) → ((x : ℕ) → List·Memᴰ x xs → test x ≡ false) → keep test xs ≡ []
+unfolding keep
+keep-none test [] h = refl
+keep-none test (x ∷ xs) h = rw (h x (List·Memᴰ·head refl)) (keep-none test xs (λ y m. h y (List·Memᴰ·tail m)))
+
+pub not-member : (x : ℕ) (xs : List ℕ) → ((y : ℕ) → List·Memᴰ y xs → x ≡ y → ⊥) → member x xs ≡ false
+unfolding member
+not-member x [] h = refl
+not-member x (y ∷ ys) h = rw (ne-eqb x y (h y (List·Memᴰ·head refl))) (not-member x ys (λ z m. h z (List·Memᴰ·tail m)))

@@ -1,13 +1,13 @@
 -- The first "no" of fields that were read, from the tests of the code: one law for each way out.
-use mathlib.Core.Path.{_≡_, refl, sym, _∙_, ap}
-use mathlib.Core.Bool.{Bool, true, false, cond, not, _&&_, and-false}
-use mathlib.Core.List.{List, [], _∷_}
+use mathlib.Core.Path.{_≡_, refl, sym, ap}
+use mathlib.Core.Bool.{and-false}
+use mathlib.Core.List.{[], _∷_}
 use Prim.Native.Nat.{ℕ, zero, suc, _+_, _*_, _≤_, _<_}
 use native.Mathlib.Omega.{arith}
 use borrow.Author.Tests.{lt-ltb, le-ltb, le-leb, lt-leb, eq-eqb, ne-eqb}
-use lib.Dec.{leb, ltb, eqb}
+use lib.Dec.{eqb}
 use Rattle.model.specs.Tests.{every}
-use Rattle.model.specs.Questions.{Answer, accepted, refused, ask, first-no}
+use Rattle.model.specs.Questions.{accepted, refused, ask, first-no}
 use Rattle.model.specs.Plan.{used-fields, fields-ok, two-differ, targets-ok}
 use Rattle.plan.specs.Contracts.{field-questions, pair-questions}
 

@@ -1,7 +1,7 @@
 -- A plan is accepted exactly when the plan rules hold. What acceptance gives: the facts that the laws of the machine need, the bounds
 -- of the field widths, and a path of successors from task 0 to every task.
 use mathlib.Core.Path.{_≡_, refl, sym, _∙_, ap}
-use mathlib.Core.Bool.{Bool, true, false, cond, not, _&&_, Bool·beq}
+use mathlib.Core.Bool.{Bool, true, false, _&&_, Bool·beq}
 use mathlib.Core.Logic.{_↔_}
 use mathlib.Core.List.{List, [], _∷_, _++_, flatMap, List·Memᴰ}
 use Prim.Native.Nat.{ℕ, zero, suc, _+_, _≤_, _<_}
@@ -9,14 +9,14 @@ use native.Mathlib.Omega.{arith}
 use borrow.Author.Tests.{leb-true, eqb-true, le-leb, eq-eqb, ne-eqb, eqb-false}
 use lib.Dec.{leb, eqb}
 use lib.ListN.{length, drop}
-use Rattle.model.specs.Tests.{below, every, keep, is-empty, member}
-use Rattle.model.specs.Questions.{Answer, accepted, ask, first-no}
-use Rattle.model.specs.Plan.{Plan, tasks, successors-of, predecessors, responsiveness-field, utilization-field, quantum-length-field, task-count, count-field, first-field, second-field, successor-fields, plan-of, task-questions, header-questions, graph-questions, all-preceded, one-exit, plan-questions, plan-answer}
+use Rattle.model.specs.Tests.{below, is-empty, member}
+use Rattle.model.specs.Questions.{Answer, accepted, refused, first-no}
+use Rattle.model.specs.Plan.{Plan, tasks, successors-of, predecessors, task-count, count-field, first-field, second-field, successor-fields, plan-of, task-questions, header-questions, graph-questions, all-preceded, one-exit, plan-questions, plan-answer}
 use Rattle.model.specs.Statements.{SoundPlan}
 use Rattle.plan.specs.Rules.{WellFormed, PlanRules, WithinBounds, Leads, nowhere, onward}
-use Rattle.plan.proofs.Lists.{outcome, below-mem, mem-below, mem-from-one, from-one-mem, every-at, every-holds, first-holds, second-holds, both-hold, keep-some, member-mem}
+use Rattle.plan.proofs.Lists.{below-mem, mem-below, mem-from-one, from-one-mem, every-at, every-holds, first-holds, second-holds, both-hold, keep-some, member-mem}
 use Rattle.plan.proofs.Asked.{and-then, first-no-append, first-accepted, second-accepted, ask-accepted, two-accepted, accepted-at, accepted-below}
-use Rattle.plan.proofs.Facts.{tasks-of, successors-given, HeaderFacts, header-facts, header-accepted, FieldFacts, TargetFacts, TaskFacts, task-facts, task-accepted, used-most, same-targets}
+use Rattle.plan.proofs.Facts.{tasks-of, successors-given, HeaderFacts, header-facts, header-accepted, TargetFacts, TaskFacts, task-facts, task-accepted, used-most, same-targets}
 
 -- ---- the three parts of the questions
 
@@ -33,7 +33,7 @@ answer-parts bytes =
   where
     regroup : (a b c : Answer) → and-then (and-then a b) c ≡ and-then a (and-then b c)
     regroup accepted b c = refl
-    regroup (Rattle.model.specs.Questions.refused n) b c = refl
+    regroup (refused n) b c = refl
 
 -- ---- the graph: questions 9 and 10
 

@@ -1,4 +1,5 @@
 -- The paper's number for each answer of plan reading.
+use mathlib.Core.Bool.{Bool, true, false}
 use Rattle.model.specs.Questions.{Answer, accepted, refused}
 use Rattle.plan.specs.declared.PlanAnswer.{PlanAnswer}
 use Rattle.plan.specs.declared.PlanAnswer.the-variants.{Accepted, Short, UnknownForm, LowResponsiveness, BadUtilization, NoQuantum, WrongLength, BadFields, BadSuccessors, BadPredecessors, LooseEnd}
@@ -15,3 +16,8 @@ answer-of BadFields = refused 7
 answer-of BadSuccessors = refused 8
 answer-of BadPredecessors = refused 9
 answer-of LooseEnd = refused 10
+
+-- it is acceptance
+abbrev pub passes : Answer → Bool
+passes accepted = true
+passes (refused n) = false

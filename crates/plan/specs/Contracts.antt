@@ -1,19 +1,18 @@
--- What the functions ask and promise, over plain lists and numbers.
+-- What the inner functions ask and promise, over plain lists and numbers.
 use mathlib.Core.Path.{_≡_}
 use mathlib.Core.Bool.{Bool, cond, not, _&&_}
 use mathlib.Core.List.{List, [], _∷_, flatMap}
-use Prim.Native.Nat.{ℕ, _+_, _*_, _-_, _≤_, _<_}
+use Prim.Native.Nat.{ℕ, _+_, _*_, _-_, _<_}
 use lib.Dec.{leb, ltb, eqb}
-use lib.ListN.{length, getD, set, drop, replicate}
-use Rattle.model.specs.Tests.{below, every, keep, member}
-use Rattle.model.specs.Questions.{Question, Answer, accepted, refused, ask, first-no}
-use Rattle.model.specs.Plan.{field, predecessors, form-field, responsiveness-field, utilization-field, quantum-length-field, task-count, count-field, first-field, second-field, used-fields, successor-fields, fields-ok, targets-ok, task-questions, plan-of, plan-answer}
+use lib.ListN.{length, getD, set}
+use Rattle.model.specs.Tests.{below, keep, member}
+use Rattle.model.specs.Questions.{Question, accepted, ask, first-no}
+use Rattle.model.specs.Plan.{field, header, task-count, first-field, second-field, used-fields, successor-fields, fields-ok, targets-ok, task-questions, header-questions}
 use Rattle.plan.specs.declared.Header.{Header}
 use Rattle.plan.specs.declared.TaskFields.{TaskFields}
-use Rattle.plan.specs.declared.PlanRecord.{PlanRecord}
-use Rattle.plan.specs.declared.Reading.{Reading}
+use Rattle.plan.specs.declared.PlanAnswer.{PlanAnswer}
 use Rattle.plan.specs.Answers.{answer-of}
-use Rattle.plan.specs.View.{plan-view, Ends}
+use Rattle.plan.specs.View.{Ends}
 
 -- ---- the fields
 
@@ -54,6 +53,11 @@ unfoldable pub pair-questions : ℕ → ℕ → ℕ → ℕ → ℕ → List Que
 pair-questions n t count first second =
     ask (fields-ok count first second) 7 ∷ ask (targets-ok n t (used-fields count first second)) 8 ∷ []
 
+-- the header is read and accepted
+pub record HeaderRead (bytes : List ℕ) (h : Header) : Type 0 where
+  pub fields : HeaderOf (header bytes) h
+  pub passed : first-no (header-questions bytes) ≡ accepted
+
 -- ---- the arrays while the tasks are read
 
 -- a count that stops at 3, so that it fits a byte; 3 is "three or more"
@@ -78,31 +82,27 @@ pub record Held (bytes : List ℕ) (i : ℕ) (first second counts : List ℕ) : 
   pub second-ends : Ends i second
   pub counts-ends : Ends (task-count bytes) counts
 
--- ---- what reading promises
+-- ---- what the functions over the arrays ask and promise
 
--- the blank: what stands beside a refusal. It is no plan: a plan has a task.
-unfoldable pub blank : PlanRecord
-blank =
-    record {
-      responsiveness = 0;
-      utilization = 0;
-      «quantum_length» = 0;
-      tasks = 0;
-      first = replicate 1024 0;
-      second = replicate 1024 0;
-      predecessors = replicate 1024 0;
-    }
+-- the header is accepted, and the tasks below t are read
+pub record Due (bytes : List ℕ) (n t : ℕ) (first second counts : List ℕ) : Type 0 where
+  pub whole : length bytes ≡ 5 + 3 * n
+  pub number : n ≡ task-count bytes
+  pub held : Held bytes t first second counts
 
--- the record holds the plan of the bytes, how many predecessors each task has, and 0 at and past N
-pub record Holds (bytes : List ℕ) (plan : PlanRecord) : Type 0 where
-  pub shows : plan-view plan ≡ plan-of bytes
-  pub preceded : (t : ℕ) → t < plan .tasks → getD (plan .predecessors) t 0 ≡ length (predecessors (plan-of bytes) t)
-  pub first-ends : Ends (plan .tasks) (plan .first)
-  pub second-ends : Ends (plan .tasks) (plan .second)
-  pub predecessors-ends : Ends (plan .tasks) (plan .predecessors)
+-- the answer of task t; where it is acceptance, the tasks below t + 1 are read
+pub record TaskRead (bytes : List ℕ) (t : ℕ) (r : PlanAnswer) (first second counts : List ℕ) : Type 0 where
+  pub answered : answer-of r ≡ first-no (task-questions bytes t)
+  pub held : answer-of r ≡ accepted → Held bytes (t + 1) first second counts
 
--- the answer is the first "no"; where there is none, the plan is held; a refusal leaves the blank
-pub record RightReading (bytes : List ℕ) (r : Reading) : Type 0 where
-  pub answered : answer-of (r .answer) ≡ plan-answer bytes
-  pub held : plan-answer bytes ≡ accepted → Holds bytes (r .plan)
-  pub no-plan : (number : ℕ) → plan-answer bytes ≡ refused number → r .plan ≡ blank
+-- the answer of all tasks; where it is acceptance, all n are read
+pub record TasksRead (bytes : List ℕ) (n : ℕ) (r : PlanAnswer) (first second counts : List ℕ) : Type 0 where
+  pub answered : answer-of r ≡ first-no (flatMap (task-questions bytes) (below n))
+  pub held : answer-of r ≡ accepted → Held bytes n first second counts
+
+-- the tests of questions 9 and 10, over the arrays
+unfoldable pub one-or-two : List ℕ → ℕ → Bool
+one-or-two counts t = leb 1 (getD counts t 0) && leb (getD counts t 0) 2
+
+unfoldable pub followed : List ℕ → ℕ → Bool
+followed first t = not (eqb (getD first t 0) 0)

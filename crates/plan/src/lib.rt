@@ -1,15 +1,12 @@
 // A plan's bytes become the plan, or the number of the first question whose answer is no. Nothing is asked of the bytes.
 ghost use mathlib.Core.Path.{_≡_};
-ghost use mathlib.Core.Bool.{not, _&&_};
-ghost use mathlib.Core.List.{flatMap};
-ghost use Prim.Native.Nat.{_+_, _*_, _-_, _≤_, _<_};
-ghost use lib.Dec.{leb, eqb};
-ghost use lib.ListN.{length, getD, drop};
+ghost use Prim.Native.Nat.{_-_, _≤_, _<_};
+ghost use lib.ListN.{drop};
 ghost use Rattle.model.specs.Tests.{below, every};
-ghost use Rattle.model.specs.Questions.{accepted, first-no};
-ghost use Rattle.model.specs.Plan.{task-count, task-questions};
-ghost use Rattle.plan.specs.Answers.{answer-of};
-ghost use Rattle.plan.specs.Contracts.{HeaderOf, five-bytes, TaskOf, three-bytes, field-questions, pair-questions, noted, Held, RightReading, blank};
+ghost use Rattle.model.specs.Questions.{first-no, answer-number};
+ghost use Rattle.plan.specs.Answers.{answer-of, passes};
+ghost use Rattle.plan.specs.Contracts.{HeaderOf, five-bytes, TaskOf, three-bytes, field-questions, pair-questions, noted, Due, TaskRead, TasksRead, one-or-two, followed, HeaderRead};
+ghost use Rattle.plan.specs.Promise.{blank, RightReading};
 
 // One case for each number of the paper, which answer-of gives.
 pub enum PlanAnswer {
@@ -60,6 +57,37 @@ struct TaskFields {
     second: usize,
 }
 
+// The paper's number of a refusal, and 0 for acceptance.
+pub fn number(answer: PlanAnswer) -> u8
+    ensures { λ r. ⌜ r ≡ answer-number (answer-of answer) ⌝ }
+{
+    match answer {
+        PlanAnswer::Accepted => 0,
+        PlanAnswer::Short => 1,
+        PlanAnswer::UnknownForm => 2,
+        PlanAnswer::LowResponsiveness => 3,
+        PlanAnswer::BadUtilization => 4,
+        PlanAnswer::NoQuantum => 5,
+        PlanAnswer::WrongLength => 6,
+        PlanAnswer::BadFields => 7,
+        PlanAnswer::BadSuccessors => 8,
+        PlanAnswer::BadPredecessors => 9,
+        PlanAnswer::LooseEnd => 10,
+    }
+}
+
+// Is the answer acceptance?
+pub fn passed(answer: PlanAnswer) -> bool
+    ensures { λ r. ⌜ r ≡ passes (answer-of answer) ⌝ }
+{
+    if let PlanAnswer::Accepted = answer {
+        true
+    } else {
+        false
+    }
+}
+
+// The header's five bytes taken apart.
 fn header_of(a: u8, b: u8, c: u8, d: u8, e: u8) -> Header
     ensures { λ r. ⌜ HeaderOf (five-bytes a b c d e) r ⌝ }
 {
@@ -98,6 +126,7 @@ fn header_answer(h: Header, size: usize) -> PlanAnswer
     PlanAnswer::Accepted
 }
 
+// A task's three bytes taken apart.
 fn task_of(a: u8, b: u8, c: u8) -> TaskFields
     ensures { λ r. ⌜ TaskOf (three-bytes a b c) r ⌝ }
 {
@@ -170,4 +199,150 @@ fn note(counts: &mut [u8; 1024], s: usize)
     if count < 3 {
         counts[s] = count + 1;
     }
+}
+
+// Reads the task t of n: its questions, and where they pass its fields into the arrays.
+fn read_task(
+    bytes: &[u8],
+    t: usize,
+    n: usize,
+    first: &mut [u16; 1024],
+    second: &mut [u16; 1024],
+    counts: &mut [u8; 1024],
+) -> PlanAnswer
+    requires { ⌜ t < n ⌝ ∗ ⌜ Due (now bytes) n t (now first) (now second) (now counts) ⌝ }
+    ensures { λ r. ⌜ TaskRead (now (bytes .entry)) t r (now (first .exit)) (now (second .exit)) (now (counts .exit)) ⌝ }
+{
+    let at = 5 + 3 * t;
+    let f = task_of(bytes[at], bytes[at + 1], bytes[at + 2]);
+    let answer = task_answer(f, t, n);
+    if passed(answer) {
+        first[t] = f.first as u16;
+        second[t] = f.second as u16;
+        note(counts, f.first);
+        note(counts, f.second);
+    }
+    answer
+}
+
+// Reads all n tasks, in rising order, and stops at the first "no". The arrays come with zeros.
+fn read_tasks(
+    bytes: &[u8],
+    n: usize,
+    first: &mut [u16; 1024],
+    second: &mut [u16; 1024],
+    counts: &mut [u8; 1024],
+) -> PlanAnswer
+    requires { ⌜ Due (now bytes) n 0 (now first) (now second) (now counts) ⌝ }
+    ensures { λ r. ⌜ TasksRead (now (bytes .entry)) n r (now (first .exit)) (now (second .exit)) (now (counts .exit)) ⌝ }
+{
+    let mut t = 0;
+    while t < n {
+        let answer = read_task(bytes, t, n, first, second, counts);
+        if passed(answer) {
+            t += 1;
+        } else {
+            return answer;
+        }
+    }
+    PlanAnswer::Accepted
+}
+
+// Question 9 over the counts: each of the tasks from 1 up has one or two predecessors.
+fn all_preceded(n: usize, counts: &[u8; 1024]) -> bool
+    requires { ⌜ n ≤ 1024 ⌝ }
+    ensures { λ r. ⌜ r ≡ every (one-or-two (now (counts .entry))) (drop 1 (below n)) ⌝ }
+{
+    let mut t = 1;
+    while t < n {
+        if counts[t] < 1 {
+            return false;
+        }
+        if counts[t] > 2 {
+            return false;
+        }
+        t += 1;
+    }
+    true
+}
+
+// Question 10 over the first successors: each task but the last has one.
+fn one_exit(n: usize, first: &[u16; 1024]) -> bool
+    requires { ⌜ n ≤ 1024 ⌝ }
+    ensures { λ r. ⌜ r ≡ every (followed (now (first .entry))) (below (n - 1)) ⌝ }
+{
+    let mut t = 0;
+    while t + 1 < n {
+        if first[t] == 0 {
+            return false;
+        }
+        t += 1;
+    }
+    true
+}
+
+// No plan: the blank stands beside the answer.
+fn refusal(answer: PlanAnswer) -> Reading
+    ensures { λ r. ⌜ (r .answer ≡ answer) × (r .plan ≡ blank) ⌝ }
+{
+    Reading {
+        answer,
+        plan: PlanRecord {
+            responsiveness: 0,
+            utilization: 0,
+            quantum_length: 0,
+            tasks: 0,
+            first: [0u16; 1024],
+            second: [0u16; 1024],
+            predecessors: [0u8; 1024],
+        },
+    }
+}
+
+// The tasks and then the graph, after an accepted header.
+fn read_graph(bytes: &[u8], h: Header) -> Reading
+    requires { ⌜ HeaderRead (now bytes) h ⌝ }
+    ensures { λ r. ⌜ RightReading (now (bytes .entry)) r ⌝ }
+{
+    let n = h.tasks;
+    let mut first = [0u16; 1024];
+    let mut second = [0u16; 1024];
+    let mut predecessors = [0u8; 1024];
+    let answer = read_tasks(bytes, n, &mut first, &mut second, &mut predecessors);
+    if !passed(answer) {
+        return refusal(answer);
+    }
+    if !all_preceded(n, &predecessors) {
+        return refusal(PlanAnswer::BadPredecessors);
+    }
+    if !one_exit(n, &first) {
+        return refusal(PlanAnswer::LooseEnd);
+    }
+    Reading {
+        answer: PlanAnswer::Accepted,
+        plan: PlanRecord {
+            responsiveness: h.responsiveness as u8,
+            utilization: h.utilization as u8,
+            quantum_length: h.quantum as u16,
+            tasks: n as u16,
+            first,
+            second,
+            predecessors,
+        },
+    }
+}
+
+// The plan of any bytes, or the number of the first "no".
+pub fn read(bytes: &[u8]) -> Reading
+    ensures { λ r. ⌜ RightReading (now (bytes .entry)) r ⌝ }
+{
+    if bytes.len() < 5 {
+        return refusal(PlanAnswer::Short);
+    }
+    let h = header_of(bytes[0], bytes[1], bytes[2], bytes[3], bytes[4]);
+    let answer = header_answer(h, bytes.len());
+    if !passed(answer) {
+        return refusal(answer);
+    }
+    read_graph(bytes, h)
 }

@@ -152,8 +152,8 @@ module _ {first second pending next ends : List ℕ} {m : Numbers} {w : ℕ} (tu
   shown-successor : (s : ℕ) → List·Memᴰ s (shown (getD first t 0) (getD second t 0)) → List·Memᴰ s (successors-of plan t)
   shown-successor s mem = rw fields mem
 
-  unmarked : (s : ℕ) → (s ≡ t → ⊥) → getD (set pending t worked-mark) s 0 ≡ getD pending s 0
-  unmarked s ne = getD-set-other pending t s worked-mark 0 ne
+  unmarked : (mark s : ℕ) → (s ≡ t → ⊥) → getD (set pending t mark) s 0 ≡ getD pending s 0
+  unmarked mark s ne = getD-set-other pending t s mark 0 ne
 
   apart-fields : (getD first t 0 ≡ 0 → ⊥) → getD first t 0 ≡ getD second t 0 → ⊥
   unfolding shown
@@ -161,15 +161,15 @@ module _ {first second pending next ends : List ℕ} {m : Numbers} {w : ℕ} (tu
       sound .planned .apart t (getD first t 0) (getD second t 0) t-of-plan
       (fields ∙ rw (ne-eqb (getD first t 0) 0 nz, ne-eqb (getD second t 0) 0 (λ z. nz (q ∙ z)))) q
 
-  pub releasable : AllReleasable (set pending t worked-mark) next (getD first t 0) (getD second t 0) rest
-  releasable =
+  pub releasable : (mark : ℕ) → AllReleasable (set pending t mark) next (getD first t 0) (getD second t 0) rest
+  releasable mark =
       record {
-        numbers = length-set pending t worked-mark ∙ sound .sizes .numbers;
+        numbers = length-set pending t mark ∙ sound .sizes .numbers;
         links = sound .sizes .links;
         inside = λ s mem. omega (arith, s-inside s (shown-successor s mem), sound .few-tasks);
         apart = apart-fields;
         awaits = λ s mem.
-            rw (unmarked s (s-apart s (shown-successor s mem)), s-awaits s (shown-successor s mem)) (omega arith);
+            rw (unmarked mark s (s-apart s (shown-successor s mem)), s-awaits s (shown-successor s mem)) (omega arith);
         elsewhere = λ s mem. nowhere-behind s (shown-successor s mem);
         room = omega (arith, front-size, turn .filled);
       }
@@ -195,12 +195,12 @@ module _ {first second pending next ends : List ℕ} {m : Numbers} {w : ℕ} (tu
 
     -- of a task that is no successor, and not the one that was worked
     number-same : (x : ℕ) → (x ≡ t → ⊥) → member x (successors-of plan t) ≡ false → getD pending′ x 0 ≡ getD pending x 0
-    number-same x ne other = omega (arith, number-after x, unmarked x ne, no-member x (successors-of plan t) other)
+    number-same x ne other = omega (arith, number-after x, unmarked worked-mark x ne, no-member x (successors-of plan t) other)
 
     number-less : (x : ℕ) → member x (successors-of plan t) ≡ true → getD pending′ x 0 ≡ awaited plan (set worked t true) x
     number-less x is =
         let mem = is-member x (successors-of plan t) is in
-        omega (arith, number-after x, unmarked x (s-apart x mem), s-awaits x mem, successor-once (sound .planned) t x t-of-plan is)
+        omega (arith, number-after x, unmarked worked-mark x (s-apart x mem), s-awaits x mem, successor-once (sound .planned) t x t-of-plan is)
 
     own-number : getD pending′ t 0 ≡ worked-mark
     own-number =
@@ -251,7 +251,7 @@ module _ {first second pending next ends : List ℕ} {m : Numbers} {w : ℕ} (tu
 
     came-ready : (s : ℕ) → List·Memᴰ s (successors-of plan t) → last-awaited (set pending t worked-mark) s ≡ ready plan (set worked t true) s
     came-ready s mem =
-        rw (unmarked s (s-apart s mem), s-awaits s mem, ready-awaits-none plan (set worked t true) s) (one-more (awaited plan (set worked t true) s))
+        rw (unmarked worked-mark s (s-apart s mem), s-awaits s mem, ready-awaits-none plan (set worked t true) s) (one-more (awaited plan (set worked t true) s))
 
     own-after : tasks-of next′ after ≡ released plan (completed t worked) t ++ tail (deque-of e w)
     unfolding released

@@ -38,6 +38,7 @@ fn after_mug(m: Numbers) -> Numbers
 {
     let works = m.works;
     let steals = m.steals;
+    let usage = m.usage + 1;
     Numbers {
         tasks: m.tasks,
         workers: m.workers,
@@ -46,7 +47,7 @@ fn after_mug(m: Numbers) -> Numbers
         mugs: MugCycles(m.mugs.0 + 1),
         steals: steals,
         successes: m.successes,
-        usage: m.usage + 1,
+        usage: usage,
         head: (m.head + 1) % 64,
         waiting: m.waiting - 1,
     }

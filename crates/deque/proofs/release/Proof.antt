@@ -1,6 +1,7 @@
 -- `deque::release` meets its contract.
 use borrow.Author.Needs.{needs}
 use mathlib.Core.Path.{_∙_}
+use native.Mathlib.Omega.{arith}
 use denote.Ref.{now}
 use Rattle.deque.proofs.Releases.{released-none, released-later, released-now}
 use Rattle.deque.proofs.release.Statement.{statement}
@@ -27,7 +28,7 @@ element-write-pending : tie.Need-element-write-pending
 element-write-pending c = search needs
 
 returns-2 : tie.Need-returns-2
-returns-2 c = released-later _ _ _ _ (c .before .before .before .wide .ensures) (c .before .before .if1 .left) (c .if2 .taken)
+returns-2 c = released-later _ _ _ _ (c .before .before .before .wide .ensures) (c .before .before .if1 .left) (omega (arith, c .if2 .taken))
 
 mul-next : tie.Need-mul-next
 mul-next c = search needs
@@ -39,7 +40,7 @@ add-t16 : tie.Need-add-t16
 add-t16 c = search needs
 
 returns-3 : tie.Need-returns-3
-returns-3 c = released-now _ _ _ _ (c .before .before .before .before .before .pre) (c .before .before .before .before .wide .ensures) (c .before .before .before .if1 .left) (c .before .if2 .left)
+returns-3 c = released-now _ _ _ _ (c .before .before .before .before .before .pre) (c .before .before .before .before .wide .ensures) (c .before .before .before .if1 .left) (omega (arith, c .before .if2 .left))
 
 pub release-spec : {M : Type 1} → statement M
 release-spec =

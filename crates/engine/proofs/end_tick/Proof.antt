@@ -1,7 +1,7 @@
--- `engine::end_tick` meets its contract: each way out is a law of Ticking.
+-- `engine::end_tick` meets its contract: each way out is a law of Ending.
 -- Assumes nothing.
 use borrow.Author.Needs.{needs}
-use Rattle.engine.proofs.Ticking.{finished-ticked, unclosed-ticked, closed-ticked}
+use Rattle.engine.proofs.Ending.{finished-ticked, unclosed-ticked, closed-ticked}
 use Rattle.engine.proofs.end_tick.Statement.{statement}
 use Rattle.engine.proofs.end_tick.Tie as tie
 

@@ -1,7 +1,6 @@
 -- `engine::tick` meets its contract: a refused tick leaves the job, and an accepted one is the model's tick, with workers or without.
 -- Assumes nothing.
 use mathlib.Core.Path.{_≡_, sym, ap, _∙_}
-use mathlib.Core.List.{List}
 use native.Mathlib.Omega.{arith}
 use borrow.Author.Needs.{needs}
 use denote.Ref.{now}

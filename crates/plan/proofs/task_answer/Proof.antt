@@ -1,15 +1,13 @@
 -- `plan::task_answer` meets its contract: each way out is a law of Refusals.
 use borrow.Author.Needs.{needs}
-use mathlib.Core.Path.{_∙_, ap}
+use mathlib.Core.Path.{_∙_}
 use native.Mathlib.Omega.{arith}
-use Rattle.model.specs.Questions.{first-no}
-use Rattle.plan.specs.Contracts.{pair-questions}
 use Rattle.plan.proofs.Refusals.{no-7-count, no-7-second, no-7-first, none, two-counted, one-low, one-high, one}
 use Rattle.plan.proofs.task_answer.Statement.{statement}
 use Rattle.plan.proofs.task_answer.Tie as tie
 
 returns : tie.Need-returns
-returns c = no-7-count _ _ _ _ _ (c .if1 .taken)
+returns c = no-7-count _ _ _ _ _ (omega arith)
 
 two-answer-requires : tie.Need-two-answer-requires
 two-answer-requires c κs = search needs

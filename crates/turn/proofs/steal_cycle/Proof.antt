@@ -19,7 +19,7 @@ after-steal-requires : tie.Need-after-steal-requires
 after-steal-requires c κs = search needs
 
 returns : tie.Need-returns
-returns c = stolen-nothing (c .before .before .before .before .before .pre) (c .before .before .before .deque-at .ensures) (c .before .if1 .taken) (c .after-steal .ensures)
+returns c = stolen-nothing (c .before .before .before .before .before .pre) (c .before .before .before .deque-at .ensures) (omega (arith, c .before .if1 .taken)) (c .after-steal .ensures)
 
 stolen-count-requires : tie.Need-stolen-count-requires
 stolen-count-requires c κs = search needs
@@ -43,7 +43,7 @@ returns-2 : tie.Need-returns-2
 returns-2 c =
     stolen (c .before .before .before .before .before .before .before .before .before .before .before .before .pre) (c .before .before .before .before .before .before .before .before .before .before .deque-at .ensures)
     (record {
-      many = c .before .before .before .before .before .before .before .before .if1 .left;
+      many = omega (arith, c .before .before .before .before .before .before .before .before .if1 .left);
       right = c .before .before .before .before .before .before .before .stolen-count .ensures .0;
       part = c .before .before .before .before .before .before .before .stolen-count .ensures .1;
       led = c .before .before .before .before .before .ahead .ensures;

@@ -59,7 +59,7 @@ element-copy-out-two-2 : tie.Need-element-copy-out-two-2
 element-copy-out-two-2 c = task-inside (c .before .before .before)
 
 release-successors-requires : tie.Need-release-successors-requires
-release-successors-requires c κs = rw (task (c .before .before .before .before .before .before), size (c .before .before .before .before .before .before .before)) (releasable (c .before .before .before .before .before .before .before .before .before .pre))
+release-successors-requires c κs = rw (task (c .before .before .before .before .before .before), size (c .before .before .before .before .before .before .before)) (releasable (c .before .before .before .before .before .before .before .before .before .pre) _)
 
 put-requires : tie.Need-put-requires
 put-requires c κs = omega (arith, worker-place (c .before .before .before .before .before .before .before .before .before .before .before .pre))

@@ -1,0 +1,3 @@
+-- What the contracts of `counters` cite beside the model's definitions.
+pub mod Line
+pub mod Put

@@ -1,0 +1,169 @@
+// The counters line (document 01: count line), written straight into a lent buffer. Document 01, "Day log and label"; the
+// definitions are model's specs/Counters.antt.
+ghost use mathlib.Core.Path.{_≡_};
+ghost use mathlib.Core.List.{_++_, _∷_, []};
+ghost use Prim.Native.Nat.{_+_, _%_, _≤_, _<_, min};
+ghost use lib.ListN.{length};
+ghost use Rattle.model.specs.Questions.{by-answer};
+ghost use Rattle.model.specs.Counters.{decimal, spaced, counters-answer, put-at-start};
+ghost use Rattle.counters.specs.Line.{status-number, numbers-of, line-answer, line-length};
+ghost use Rattle.counters.specs.Put.{put, put-if-room, next-if-room};
+
+// A job's status. specs/Line.antt gives document 01's number for each case: one digit, which u8 does not say.
+pub enum Status {
+    Fresh,
+    Running,
+    Held,
+    Finished,
+}
+
+// The ten numbers of a counters line. The types' widths alone keep the line to 127 bytes.
+pub struct Counters {
+    pub status: Status,
+    pub worked: u16,
+    pub tasks: u16,
+    pub desire: u8,
+    pub allotment: u8,
+    pub work: u64,
+    pub mug: u64,
+    pub steal: u64,
+    pub successes: u64,
+    pub refusals: u64,
+}
+
+// What writing a line gives. specs/Line.antt gives document 01's number and the line's length for each case.
+pub enum LineAnswer {
+    // The line stands at the buffer's start: how many bytes it has, byte 10 included.
+    Written(usize),
+    // The buffer has fewer than 128 bytes: 20.
+    TooSmall,
+}
+
+// The status of a number: 0 to 3 as document 01 has them, and above that as 3.
+pub fn status_of(number: u8) -> Status
+    ensures { λ r. ⌜ status-number r ≡ min number 3 ⌝ }
+{
+    match number {
+        0 => Status::Fresh,
+        1 => Status::Running,
+        2 => Status::Held,
+        _ => Status::Finished,
+    }
+}
+
+fn number_of(status: Status) -> u64
+    ensures { λ r. ⌜ r ≡ status-number status ⌝ }
+{
+    match status {
+        Status::Fresh => 0,
+        Status::Running => 1,
+        Status::Held => 2,
+        Status::Finished => 3,
+    }
+}
+
+// How many decimal digits n has.
+fn count_digits(n: u64) -> usize
+    ensures { λ r. ⌜ r ≡ length (decimal n) ⌝ }
+{
+    let mut rest = n;
+    let mut count: usize = 1;
+    while 10 <= rest {
+        rest = rest / 10;
+        count += 1;
+    }
+    count
+}
+
+// The last decimal digit of n, as a byte.
+fn last_digit(n: u64) -> u8
+    ensures { λ r. ⌜ r ≡ 48 + n % 10 ⌝ }
+{
+    let digit = n % 10;
+    48 + digit as u8
+}
+
+// Puts n's digits, of which there are `count`, at `at`, the last one first.
+fn put_digits(buffer: &mut [u8], at: usize, count: usize, n: u64)
+    requires { ⌜ count ≡ length (decimal n) ⌝ }
+    requires { ⌜ at + count ≤ length (now buffer) ⌝ }
+    ensures { λ _. ⌜ now (buffer .exit) ≡ put at (decimal n) (now (buffer .entry)) ⌝ }
+{
+    let mut left = count;
+    let mut rest = n;
+    while 0 < left {
+        left -= 1;
+        let place = at + left;
+        buffer[place] = last_digit(rest);
+        rest = rest / 10;
+    }
+}
+
+// Puts n's decimal digits at `at`, and answers the place after them. Where they do not fit nothing changes, and the answer is `at`.
+pub fn put_decimal(buffer: &mut [u8], at: usize, n: u64) -> usize
+    ensures { λ r. ⌜ r ≡ next-if-room at (decimal n) (now (buffer .entry)) ⌝ }
+    ensures { λ _. ⌜ now (buffer .exit) ≡ put-if-room at (decimal n) (now (buffer .entry)) ⌝ }
+{
+    let count = count_digits(n);
+    if buffer.len() < at {
+        return at;
+    }
+    if buffer.len() - at < count {
+        return at;
+    }
+    put_digits(buffer, at, count, n);
+    at + count
+}
+
+// Puts n's digits and the byte `end` at `at`, and answers the place after them.
+fn put_field(buffer: &mut [u8], at: usize, n: u64, end: u8) -> usize
+    requires { ⌜ at + length (decimal n ++ (end ∷ [])) ≤ length (now buffer) ⌝ }
+    ensures { λ r. ⌜ r ≡ at + length (decimal n ++ (end ∷ [])) ⌝ }
+    ensures { λ _. ⌜ now (buffer .exit) ≡ put at (decimal n ++ (end ∷ [])) (now (buffer .entry)) ⌝ }
+{
+    let next = put_decimal(buffer, at, n);
+    buffer[next] = end;
+    next + 1
+}
+
+// Puts the numbers at the buffer's start, one space between and byte 10 after, and answers how many bytes that takes.
+fn put_numbers(numbers: &[u64], buffer: &mut [u8]) -> usize
+    requires { ⌜ 0 < length (now numbers) ⌝ }
+    requires { ⌜ length (spaced (now numbers)) ≤ length (now buffer) ⌝ }
+    ensures { λ r. ⌜ r ≡ length (spaced (now (numbers .entry))) ⌝ }
+    ensures { λ _. ⌜ now (buffer .exit) ≡ put-at-start (spaced (now (numbers .entry))) (now (buffer .entry)) ⌝ }
+{
+    let last = numbers.len() - 1;
+    let mut at: usize = 0;
+    let mut i: usize = 0;
+    while i < last {
+        at = put_field(buffer, at, numbers[i], 32);
+        i += 1;
+    }
+    put_field(buffer, at, numbers[last], 10)
+}
+
+// Writes the counters line at the start of a buffer of 128 bytes or more. Bytes after the line stay; a smaller buffer stays as it is.
+pub fn write_line(counters: Counters, buffer: &mut [u8]) -> LineAnswer
+    ensures answer { λ r. ⌜ line-answer r ≡ counters-answer (now (buffer .entry)) ⌝ }
+    ensures size { λ r. ⌜ line-length r ≡ by-answer (counters-answer (now (buffer .entry))) (length (spaced (numbers-of counters))) 0 ⌝ }
+    ensures bytes { λ _. ⌜ now (buffer .exit) ≡ by-answer (counters-answer (now (buffer .entry))) (put-at-start (spaced (numbers-of counters)) (now (buffer .entry))) (now (buffer .entry)) ⌝ }
+{
+    if buffer.len() < 128 {
+        return LineAnswer::TooSmall;
+    }
+    let status = counters.status;
+    let numbers = [
+        number_of(status),
+        counters.worked as u64,
+        counters.tasks as u64,
+        counters.desire as u64,
+        counters.allotment as u64,
+        counters.work,
+        counters.mug,
+        counters.steal,
+        counters.successes,
+        counters.refusals,
+    ];
+    LineAnswer::Written(put_numbers(&numbers, buffer))
+}

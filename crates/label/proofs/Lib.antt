@@ -1,0 +1,3 @@
+-- The proofs, by topic.
+pub mod Search
+pub mod Part

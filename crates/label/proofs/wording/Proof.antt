@@ -1,0 +1,75 @@
+-- `label::wording` meets its contract: what `find` answers is the model's stretch, which lies within the sheet.
+-- Assumes nothing.
+use mathlib.Core.Path.{sym, ap, _∙_}
+use native.Mathlib.Omega.{arith}
+use borrow.Author.Needs.{needs}
+use Rattle.model.specs.Questions.{answer-number}
+use Rattle.label.specs.Found.{found-answer, found-stretch}
+use Rattle.label.proofs.Part.{part-within, part-bytes, part-place}
+use Rattle.label.proofs.wording.Statement.{statement}
+use Rattle.label.proofs.wording.Tie as tie
+
+find-requires : tie.Need-find-requires
+find-requires c κs = search needs
+
+enum-known-found : tie.Need-enum-known-found
+enum-known-found c = search needs
+
+enum-told : tie.Need-enum-told
+enum-told c = search needs
+
+sub-result : tie.Need-sub-result
+sub-result c = search needs
+
+part-result-start : tie.Need-part-result-start
+part-result-start c = search needs
+
+part-result-end : tie.Need-part-result-end
+part-result-end c = search needs
+
+returns : tie.Need-returns
+returns c =
+    let at = c .before in
+    let found = sym (ap found-stretch (at .enum-told .given .1)) ∙ at .before .before .find .ensures .1 in
+    let answer = sym (ap found-answer (at .enum-told .given .1)) ∙ at .before .before .find .ensures .0 in
+    (part-bytes _ _ 0 0 found, (part-place _ _ 0 0 found _ _, ap answer-number answer))
+
+add-end : tie.Need-add-end
+add-end c =
+    let found = sym (ap found-stretch (c .before .found .given .1)) ∙ c .before .before .before .find .ensures .1 in
+    omega (arith, part-within _ _ _ _ found)
+
+sub-result-2 : tie.Need-sub-result-2
+sub-result-2 c = search needs
+
+part-result-start-2 : tie.Need-part-result-start-2
+part-result-start-2 c = search needs
+
+part-result-end-2 : tie.Need-part-result-end-2
+part-result-end-2 c =
+    let found = sym (ap found-stretch (c .before .found .given .1)) ∙ c .before .before .before .find .ensures .1 in
+    part-within _ _ _ _ found
+
+returns-2 : tie.Need-returns-2
+returns-2 c =
+    let at = c .before .before in
+    let found = sym (ap found-stretch (at .found .given .1)) ∙ at .before .before .find .ensures .1 in
+    let answer = sym (ap found-answer (at .found .given .1)) ∙ at .before .before .find .ensures .0 in
+    (part-bytes _ _ _ _ found, (part-place _ _ _ _ found _ _, ap answer-number answer))
+
+pub wording-spec : {M : Type 1} → statement M
+wording-spec =
+    tie.close
+    (tie.spec
+    find-requires
+    enum-known-found
+    enum-told
+    sub-result
+    part-result-start
+    part-result-end
+    returns
+    add-end
+    sub-result-2
+    part-result-start-2
+    part-result-end-2
+    returns-2)

@@ -1,0 +1,2 @@
+-- What the contracts of `label` cite beside the model's definitions.
+pub mod Found

@@ -1,0 +1,190 @@
+-- From all tasks read to the whole plan: questions 9 and 10 are asked of the arrays, and the arrays show the plan of the bytes.
+use mathlib.Core.Path.{_≡_, refl, sym, _∙_, ap}
+use mathlib.Core.Bool.{Bool, true, false, cond, not, _&&_, and-true, Bool·beq}
+use mathlib.Core.List.{List, [], _∷_, map, flatMap, List·Memᴰ·head, List·Memᴰ·tail}
+use Prim.Native.Nat.{ℕ, zero, suc, _+_, _-_, _≤_, _<_}
+use native.Mathlib.Omega.{arith}
+use borrow.Author.Tests.{le-leb, lt-leb, lt-ltb, le-ltb, eq-eqb, ne-eqb}
+use lib.Dec.{leb, eqb}
+use lib.ListN.{length, getD, drop, replicate, length-replicate}
+use Rattle.model.specs.Tests.{below, every, keep, is-empty, member}
+use Rattle.model.specs.Questions.{first-no}
+use Rattle.model.specs.Plan.{tasks, successors-of, predecessors, responsiveness-field, utilization-field, quantum-length-field, task-count, count-field, first-field, second-field, used-fields, successor-fields, plan-of, task-questions, all-preceded, one-exit}
+use Rattle.plan.specs.declared.PlanRecord.{PlanRecord}
+use Rattle.plan.specs.View.{shown, successors-at, successors-view, plan-view, Ends}
+use Rattle.plan.specs.Contracts.{saturated, counted, Held, one-or-two, followed}
+use Rattle.plan.specs.Promise.{Holds}
+use Rattle.plan.proofs.Lists.{below-mem, map-cong, every-cong, every-below, keep-cong, keep-none, not-member}
+use Rattle.plan.proofs.Asked.{accepted-at}
+use Rattle.plan.proofs.Facts.{tasks-of, successors-given, FieldFacts, TargetFacts, TaskFacts, task-facts}
+use Rattle.plan.proofs.Sound.{GraphFacts}
+
+-- ---- counts that stop at 3
+
+saturated-some : (n : ℕ) → leb 1 (saturated n) ≡ leb 1 n
+unfolding saturated
+saturated-some zero = refl
+saturated-some (suc zero) = refl
+saturated-some (suc (suc zero)) = refl
+saturated-some (suc (suc (suc n))) = rw (le-ltb (suc (suc (suc n))) 3 (omega arith), le-leb 1 (suc (suc (suc n))) (omega arith))
+
+saturated-two : (n : ℕ) → leb (saturated n) 2 ≡ leb n 2
+unfolding saturated
+saturated-two zero = refl
+saturated-two (suc zero) = refl
+saturated-two (suc (suc zero)) = refl
+saturated-two (suc (suc (suc n))) = rw (le-ltb (suc (suc (suc n))) 3 (omega arith), lt-leb (suc (suc (suc n))) 2 (omega arith))
+
+saturated-small : (n : ℕ) → n ≤ 2 → saturated n ≡ n
+unfolding saturated
+saturated-small n l = rw (lt-ltb n 3 (omega arith))
+
+-- ---- the successors that two fields show
+
+shown-used : (n t count first second : ℕ) → FieldFacts count first second → TargetFacts n t (used-fields count first second) → shown first second ≡ used-fields count first second
+unfolding shown
+shown-used n t zero first second f g = rw (f .first-unused refl)
+shown-used n t (suc zero) first second f g =
+    let up : t < first = g .upward first (List·Memᴰ·head refl) in
+    rw (ne-eqb first 0 (λ e. omega arith), f .second-unused (omega arith))
+shown-used n t (suc (suc more)) first second f g =
+    let up : t < first = g .upward first (List·Memᴰ·head refl) in
+    let up-2 : t < second = g .upward second (List·Memᴰ·tail (List·Memᴰ·head refl)) in
+    rw (ne-eqb first 0 (λ e. omega arith), ne-eqb second 0 (λ e. omega arith))
+
+-- a task has no successor exactly when its first field shows none
+empty-shown : (first second : ℕ) → is-empty (shown first second) ≡ eqb first 0
+unfolding shown
+empty-shown first second = by (eqb first 0) (eqb second 0)
+  where
+    by : (a b : Bool) → is-empty (cond a [] (cond b (first ∷ []) (first ∷ second ∷ []))) ≡ a
+    by true b = refl
+    by false true = refl
+    by false false = refl
+
+-- ---- predecessors
+
+pub predecessors-counted : (bytes : List ℕ) (t : ℕ) → length (predecessors (plan-of bytes) t) ≡ counted bytes (task-count bytes) t
+unfolding predecessors counted
+predecessors-counted bytes t =
+    ap length
+    (ap (λ n. keep (λ p. member t (successors-of (plan-of bytes) p)) (below n)) (tasks-of bytes)
+    ∙ keep-cong _ _ (below (task-count bytes)) (λ p m. ap (member t) (successors-given bytes p (below-mem p (task-count bytes) m))))
+
+module _ (bytes first second counts : List ℕ) (held : Held bytes (task-count bytes) first second counts) where
+  task-at : (t : ℕ) → t < task-count bytes → TaskFacts bytes t
+  task-at t l = task-facts bytes t (accepted-at (task-questions bytes) (task-count bytes) (held .accepted-so-far) t l)
+
+  -- no task has task 0 as a successor
+  first-task : counted bytes (task-count bytes) 0 ≡ 0
+  unfolding counted
+  first-task =
+      ap length
+      (keep-none (λ p. member 0 (successor-fields bytes p)) (below (task-count bytes))
+      (λ p m. not-member 0 (successor-fields bytes p)
+      (λ s k e. let up : p < s = task-at p (below-mem p (task-count bytes) m) .targets .upward s k in omega arith)))
+
+  pub counts-are : GraphFacts (plan-of bytes) → (t : ℕ) → t < task-count bytes → getD counts t 0 ≡ length (predecessors (plan-of bytes) t)
+  counts-are graph zero l =
+      held .counts-held 0 ∙ (ap saturated first-task ∙ (saturated-small 0 (omega arith) ∙ sym (predecessors-counted bytes 0 ∙ first-task)))
+  counts-are graph (suc t) l =
+      held .counts-held (suc t)
+      ∙ (ap saturated (sym (predecessors-counted bytes (suc t)))
+      ∙ saturated-small (length (predecessors (plan-of bytes) (suc t))) (graph .preceded-twice (suc t) (omega arith) (rw (tasks-of bytes) l)))
+
+  -- ---- questions 9 and 10, of the arrays
+
+  pub question-9 : every (one-or-two counts) (drop 1 (below (task-count bytes))) ≡ all-preceded (plan-of bytes)
+  unfolding all-preceded one-or-two
+  question-9 =
+      rw (tasks-of bytes)
+      (every-cong _ _ (drop 1 (below (task-count bytes)))
+      (λ t _. rw (held .counts-held t, predecessors-counted bytes t, saturated-some, saturated-two)))
+
+  successors-shown : (t : ℕ) → t < task-count bytes → successors-at first second t ≡ successor-fields bytes t
+  unfolding successors-at successor-fields
+  successors-shown t l =
+      rw (held .first-held t l, held .second-held t l)
+      (shown-used (task-count bytes) t (count-field bytes t) (first-field bytes t) (second-field bytes t) (task-at t l .fields) (task-at t l .targets))
+
+  pub successors-are : successors-view first second (task-count bytes) ≡ map (successor-fields bytes) (below (task-count bytes))
+  unfolding successors-view
+  successors-are = map-cong _ _ (below (task-count bytes)) (λ t m. successors-shown t (below-mem t (task-count bytes) m))
+
+  exit-test : ℕ → Bool
+  exit-test t = Bool·beq (is-empty (successors-of (plan-of bytes) t)) (eqb (t + 1) (task-count bytes))
+
+  -- a task before the last has a successor exactly when its first field shows one
+  before-last : (t : ℕ) → t < task-count bytes - 1 → exit-test t ≡ followed first t
+  unfolding exit-test followed successors-at
+  before-last t l =
+      rw (successors-given bytes t (omega arith), ← successors-shown t (omega arith), empty-shown, ne-eqb (t + 1) (task-count bytes) (λ e. omega arith))
+      (against (eqb (getD first t 0) 0))
+    where
+      against : (b : Bool) → Bool·beq b false ≡ not b
+      against true = refl
+      against false = refl
+
+  -- the last task has none, since each would be above it and below N
+  at-last : (t : ℕ) → t + 1 ≡ task-count bytes → exit-test t ≡ true
+  unfolding exit-test
+  at-last t e =
+      rw (successors-given bytes t (omega arith), eq-eqb (t + 1) (task-count bytes) e)
+      (none-left (successor-fields bytes t) (task-at t (omega arith) .targets))
+    where
+      none-left : (successors : List ℕ) → TargetFacts (task-count bytes) t successors → Bool·beq (is-empty successors) true ≡ true
+      none-left [] g = refl
+      none-left (s ∷ rest) g =
+          let up : t < s = g .upward s (List·Memᴰ·head refl) in
+          let low : s < task-count bytes = g .inside s (List·Memᴰ·head refl) in absurd (omega arith)
+
+  pub question-10 : every (followed first) (below (task-count bytes - 1)) ≡ one-exit (plan-of bytes)
+  unfolding one-exit exit-test
+  question-10 =
+      let last : suc (task-count bytes - 1) ≡ task-count bytes = omega arith in
+      sym
+      (ap (λ n. every (λ t. Bool·beq (is-empty (successors-of (plan-of bytes) t)) (eqb (t + 1) n)) (below n)) (tasks-of bytes)
+      ∙ (ap (λ n. every exit-test (below n)) (sym last)
+      ∙ (every-below exit-test (task-count bytes - 1)
+      ∙ (ap (λ b. every exit-test (below (task-count bytes - 1)) && b) (at-last (task-count bytes - 1) (omega arith))
+      ∙ (and-true (every exit-test (below (task-count bytes - 1)))
+      ∙ every-cong _ _ (below (task-count bytes - 1)) (λ t m. before-last t (below-mem t (task-count bytes - 1) m)))))))
+
+  -- ---- the record
+
+  pub record-holds : (plan : PlanRecord) → plan .responsiveness ≡ responsiveness-field bytes → plan .utilization ≡ utilization-field bytes →
+      plan .«quantum_length» ≡ quantum-length-field bytes → plan .tasks ≡ task-count bytes →
+      plan .first ≡ first → plan .second ≡ second → plan .predecessors ≡ counts → GraphFacts (plan-of bytes) → Holds bytes plan
+  unfolding plan-view plan-of
+  record-holds plan r u q n f s c graph =
+      record {
+        shows = rw (r, u, q, n, f, s, successors-are);
+        preceded = λ t l. rw c (counts-are graph t (omega arith));
+        first-ends = rw (n, f) (held .first-ends);
+        second-ends = rw (n, s) (held .second-ends);
+        predecessors-ends = rw (n, c) (held .counts-ends);
+      }
+
+-- ---- before the first task: arrays of zeros
+
+getD-zeros : (n t : ℕ) → getD {A = ℕ} (replicate n 0) t 0 ≡ 0
+getD-zeros zero t = refl
+getD-zeros (suc n) zero = refl
+getD-zeros (suc n) (suc t) = getD-zeros n t
+
+pub zeros-end : (n : ℕ) (xs : List ℕ) → xs ≡ replicate 1024 0 → Ends n xs
+zeros-end n xs e =
+    record { places = ap length e ∙ length-replicate {A = ℕ} 1024 0; nothing-past = λ t _. ap (λ l. getD l t 0) e ∙ getD-zeros 1024 t }
+
+pub nothing-held : (bytes first second counts : List ℕ) → first ≡ replicate 1024 0 → second ≡ replicate 1024 0 → counts ≡ replicate 1024 0 → Held bytes 0 first second counts
+unfolding first-no flatMap below counted keep saturated
+nothing-held bytes first second counts f s c =
+    record {
+      accepted-so-far = refl;
+      first-held = λ t l. absurd (omega arith);
+      second-held = λ t l. absurd (omega arith);
+      counts-held = λ t. ap (λ l. getD l t 0) c ∙ getD-zeros 1024 t;
+      first-ends = zeros-end 0 first f;
+      second-ends = zeros-end 0 second s;
+      counts-ends = zeros-end (task-count bytes) counts c;
+    }

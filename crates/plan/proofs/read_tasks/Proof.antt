@@ -1,0 +1,65 @@
+-- `plan::read_tasks` meets its contract. The loop's invariant: the tasks below t are read and accepted.
+use Prim.Native.Nat.{_≤_, _-_}
+use mathlib.Core.Path.{sym, _∙_}
+use native.Mathlib.Omega.{arith}
+use borrow.Author.Needs.{needs}
+use Rattle.plan.specs.Contracts.{Due}
+use Rattle.plan.proofs.Asked.{passes-is}
+use Rattle.plan.proofs.Steps.{tasks-refused, tasks-all}
+use Rattle.plan.proofs.read_tasks.Statement.{statement}
+use Rattle.plan.proofs.read_tasks.Tie as tie
+
+abbrev Inv-loop : tie.InvT-loop
+Inv-loop bytes n first₀ second₀ counts₀ t₀ first second counts t = (t ≤ n) × Due bytes n t first second counts
+
+abbrev μ-loop : tie.MeasureT-loop
+μ-loop bytes n first₀ second₀ counts₀ t₀ first second counts t = n - t
+
+loop-holds : tie.Need-loop-holds Inv-loop μ-loop
+loop-holds c = (omega arith, c .before .pre)
+
+read-task-requires : tie.Need-read-task-requires Inv-loop μ-loop
+read-task-requires c κs = (search needs, c .before .before .before .before .loop .inv .1)
+
+passed-requires : tie.Need-passed-requires Inv-loop μ-loop
+passed-requires c κs = search needs
+
+add-t : tie.Need-add-t Inv-loop μ-loop
+add-t c = omega arith
+
+loop-less : tie.Need-loop-less Inv-loop μ-loop
+loop-less c = omega arith
+
+loop-again : tie.Need-loop-again Inv-loop μ-loop
+loop-again c =
+    let inv = c .before .before .before .before .before .before .before .loop .inv in (
+      omega arith,
+      record {
+        whole = inv .1 .whole;
+        number = inv .1 .number;
+        held = c .before .before .read-task .ensures .held (passes-is _ (sym (c .before .passed .ensures) ∙ c .if1 .taken));
+      },
+    )
+
+returns : tie.Need-returns Inv-loop μ-loop
+returns c =
+    tasks-refused _ _ _ _ _ _ (c .before .before .before .before .before .before .before .loop .inv .1 .held) _ _ _ _ (omega arith)
+    (c .before .before .read-task .ensures) (sym (c .before .passed .ensures) ∙ c .if1 .left)
+
+returns-2 : tie.Need-returns-2 Inv-loop μ-loop
+returns-2 c = tasks-all _ _ _ _ _ _ (c .before .loop .inv .1 .held) (omega arith)
+
+pub read-tasks-spec : {M : Type 1} → statement M
+read-tasks-spec =
+    tie.close
+    (tie.spec
+    Inv-loop
+    μ-loop
+    loop-holds
+    read-task-requires
+    passed-requires
+    add-t
+    loop-less
+    loop-again
+    returns
+    returns-2)

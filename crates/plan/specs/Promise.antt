@@ -1,0 +1,38 @@
+-- What plan reading promises of any bytes.
+use mathlib.Core.Path.{_≡_}
+use mathlib.Core.List.{List}
+use Prim.Native.Nat.{ℕ, _<_}
+use lib.ListN.{length, getD, replicate}
+use Rattle.model.specs.Questions.{accepted, refused}
+use Rattle.model.specs.Plan.{predecessors, plan-of, plan-answer}
+use Rattle.plan.specs.declared.PlanRecord.{PlanRecord}
+use Rattle.plan.specs.declared.Reading.{Reading}
+use Rattle.plan.specs.Answers.{answer-of}
+use Rattle.plan.specs.View.{plan-view, Ends}
+
+-- the blank: what stands beside a refusal. It is no plan: a plan has a task.
+unfoldable pub blank : PlanRecord
+blank =
+    record {
+      responsiveness = 0;
+      utilization = 0;
+      «quantum_length» = 0;
+      tasks = 0;
+      first = replicate 1024 0;
+      second = replicate 1024 0;
+      predecessors = replicate 1024 0;
+    }
+
+-- the record holds the plan of the bytes, how many predecessors each task has, and 0 at and past N
+pub record Holds (bytes : List ℕ) (plan : PlanRecord) : Type 0 where
+  pub shows : plan-view plan ≡ plan-of bytes
+  pub preceded : (t : ℕ) → t < plan .tasks → getD (plan .predecessors) t 0 ≡ length (predecessors (plan-of bytes) t)
+  pub first-ends : Ends (plan .tasks) (plan .first)
+  pub second-ends : Ends (plan .tasks) (plan .second)
+  pub predecessors-ends : Ends (plan .tasks) (plan .predecessors)
+
+-- the answer is the first "no"; where there is none, the plan is held; a refusal leaves the blank
+pub record RightReading (bytes : List ℕ) (r : Reading) : Type 0 where
+  pub answered : answer-of (r .answer) ≡ plan-answer bytes
+  pub held : plan-answer bytes ≡ accepted → Holds bytes (r .plan)
+  pub no-plan : (number : ℕ) → plan-answer bytes ≡ refused number → r .plan ≡ blank

@@ -1,0 +1,176 @@
+// Runs the paper's plan examples, and others that tell the questions apart, and prints what reading found: the answer's number and, for
+// an accepted plan, R, D, L, N and of the first four tasks, or the only one, the two fields and how many predecessors it has.
+
+fn digit(n: u16) {
+    let one = [b'0' + (n % 10) as u8];
+    io::write_all(1, &one);
+}
+
+fn put(n: u16) {
+    if n >= 10000 {
+        digit(n / 10000);
+    }
+    if n >= 1000 {
+        digit(n / 1000);
+    }
+    if n >= 100 {
+        digit(n / 100);
+    }
+    if n >= 10 {
+        digit(n / 10);
+    }
+    digit(n);
+}
+
+fn put_after(mark: &[u8], n: u16) {
+    io::write_all(1, mark);
+    put(n);
+}
+
+fn show_task(first: u16, second: u16, predecessors: u8) {
+    put_after(b" | ", first);
+    put_after(b" ", second);
+    put_after(b" ", predecessors as u16);
+}
+
+fn show_tasks(plan: plan::PlanRecord) {
+    let first = plan.first;
+    let second = plan.second;
+    let predecessors = plan.predecessors;
+    show_task(first[0], second[0], predecessors[0]);
+    if plan.tasks > 3 {
+        show_task(first[1], second[1], predecessors[1]);
+        show_task(first[2], second[2], predecessors[2]);
+        show_task(first[3], second[3], predecessors[3]);
+    }
+}
+
+fn show(name: &[u8], bytes: &[u8]) {
+    io::write_all(1, name);
+    let reading = plan::read(bytes);
+    let answer = reading.answer;
+    let plan = reading.plan;
+    put_after(b": ", plan::number(answer) as u16);
+    if plan::passed(answer) {
+        put_after(b" R ", plan.responsiveness as u16);
+        put_after(b" D ", plan.utilization as u16);
+        put_after(b" L ", plan.quantum_length);
+        put_after(b" N ", plan.tasks);
+        show_tasks(plan);
+    }
+    io::write_all(1, b"\n");
+}
+
+// The paper's examples: Plan A, 8, 9 and 10.
+fn document_rows() {
+    show(
+        b"Plan A",
+        b"\x15\x40\x00\x08\x03\x80\x08\x02\x40\x18\x00\x40\x18\x00\x00\x00\x00",
+    );
+    show(
+        b"8: Plan A cut to 16 bytes",
+        b"\x15\x40\x00\x08\x03\x80\x08\x02\x40\x18\x00\x40\x18\x00\x00\x00",
+    );
+    show(
+        b"8: Plan A and one byte more",
+        b"\x15\x40\x00\x08\x03\x80\x08\x02\x40\x18\x00\x40\x18\x00\x00\x00\x00\x00",
+    );
+    show(b"9: one task of zeros", b"\x15\x40\x00\x08\x00\x00\x00\x00");
+    show(
+        b"10: R = 7",
+        b"\x1f\x40\x00\x08\x03\x80\x08\x02\x40\x18\x00\x40\x18\x00\x00\x00\x00",
+    );
+    show(
+        b"10: R = 1",
+        b"\x13\x40\x00\x08\x03\x80\x08\x02\x40\x18\x00\x40\x18\x00\x00\x00\x00",
+    );
+    show(
+        b"10: D = 100",
+        b"\x15\x90\x00\x08\x03\x80\x08\x02\x40\x18\x00\x40\x18\x00\x00\x00\x00",
+    );
+    show(
+        b"10: D = 101",
+        b"\x15\x94\x00\x08\x03\x80\x08\x02\x40\x18\x00\x40\x18\x00\x00\x00\x00",
+    );
+}
+
+// Questions 1 to 5.
+fn header_rows() {
+    show(b"no byte", b"");
+    show(b"four bytes", b"\x15\x40\x00\x08");
+    show(
+        b"form 2",
+        b"\x25\x40\x00\x08\x03\x80\x08\x02\x40\x18\x00\x40\x18\x00\x00\x00\x00",
+    );
+    show(
+        b"D = 0",
+        b"\x14\x00\x00\x08\x03\x80\x08\x02\x40\x18\x00\x40\x18\x00\x00\x00\x00",
+    );
+    show(
+        b"L = 0",
+        b"\x15\x40\x00\x00\x03\x80\x08\x02\x40\x18\x00\x40\x18\x00\x00\x00\x00",
+    );
+    show(
+        b"L = 65535",
+        b"\x15\x43\xff\xfc\x03\x80\x08\x02\x40\x18\x00\x40\x18\x00\x00\x00\x00",
+    );
+}
+
+// Questions 7 and 8, and their order.
+fn task_rows() {
+    show(
+        b"successor count 3",
+        b"\x15\x40\x00\x08\x03\x80\x08\x02\xc0\x18\x02\x40\x18\x00\x00\x00\x00",
+    );
+    show(
+        b"an unused field that is not 0",
+        b"\x15\x40\x00\x08\x03\x80\x08\x02\x40\x18\x03\x40\x18\x00\x00\x00\x00",
+    );
+    show(
+        b"a successor that is its own task",
+        b"\x15\x40\x00\x08\x03\x80\x08\x02\x40\x08\x00\x40\x18\x00\x00\x00\x00",
+    );
+    show(
+        b"a successor that is N",
+        b"\x15\x40\x00\x08\x03\x80\x08\x02\x40\x20\x00\x40\x18\x00\x00\x00\x00",
+    );
+    show(
+        b"two equal successors",
+        b"\x15\x40\x00\x08\x03\x80\x08\x01\x40\x18\x00\x40\x18\x00\x00\x00\x00",
+    );
+    show(
+        b"successors in falling order",
+        b"\x15\x40\x00\x08\x03\x80\x10\x01\x40\x18\x00\x40\x18\x00\x00\x00\x00",
+    );
+    show(
+        b"8 of task 0 before 7 of task 1",
+        b"\x15\x40\x00\x08\x03\x80\x08\x01\xc0\x18\x00\x40\x18\x00\x00\x00\x00",
+    );
+    show(
+        b"7 of task 1 before 8 of task 2",
+        b"\x15\x40\x00\x08\x03\x80\x08\x02\xc0\x18\x00\x40\x10\x00\x00\x00\x00",
+    );
+}
+
+// Questions 9 and 10.
+fn graph_rows() {
+    show(
+        b"a task without predecessors",
+        b"\x15\x40\x00\x08\x03\x40\x08\x00\x40\x18\x00\x40\x18\x00\x00\x00\x00",
+    );
+    show(
+        b"three predecessors",
+        b"\x15\x40\x00\x08\x03\x80\x08\x03\x80\x10\x03\x40\x18\x00\x00\x00\x00",
+    );
+    show(
+        b"a loose end",
+        b"\x15\x40\x00\x08\x03\x80\x08\x02\x00\x00\x00\x40\x18\x00\x00\x00\x00",
+    );
+}
+
+fn main() {
+    document_rows();
+    header_rows();
+    task_rows();
+    graph_rows();
+}
