@@ -89,7 +89,7 @@ pub record Mugged (ends : List ℕ) (m : Numbers) (w : ℕ) (ends′ : List ℕ)
   pub numbers : m′ ≡ after-mug m
   pub shows : (pending next : List ℕ) → view pending next ends′ m′ ≡ mug-cycle w (deque-at next ends (64 + m .head)) (view pending next ends m)
 
--- the worker's own deque is empty, and the links of the chosen one can be followed
+-- the places of the worker and of the chosen one are among those shown, and the links of the chosen deque can be followed
 pub record StealTurn (next ends : List ℕ) (m : Numbers) (w choice : ℕ) : Type 0 where
   pub places : length ends ≡ 256
   pub worker : w < m .workers
