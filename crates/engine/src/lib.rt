@@ -2,7 +2,7 @@
 ghost use mathlib.Core.Path.{_≡_};
 ghost use mathlib.Core.List.{List};
 ghost use Prim.Native.Nat.{ℕ, _<_};
-ghost use Rattle.model.specs.Questions.{first-no};
+ghost use Rattle.model.specs.Questions.{answer-number, first-no};
 ghost use Rattle.model.specs.Plan.{Plan};
 ghost use Rattle.model.specs.Machine.{Call};
 ghost use Rattle.engine.specs.Answers.{answer-of};
@@ -40,6 +40,22 @@ pub struct Moved {
     pub answer: CallAnswer,
     pub numbers: Numbers,
     pub course: Course,
+}
+
+// The paper's number of a refusal, and 0 for acceptance.
+pub fn number(answer: CallAnswer) -> u8
+    ensures { λ r. ⌜ r ≡ answer-number (answer-of answer) ⌝ }
+{
+    match answer {
+        CallAnswer::Accepted => 0,
+        CallAnswer::Finished => 11,
+        CallAnswer::QuantumOpen => 12,
+        CallAnswer::QuantaSpent => 13,
+        CallAnswer::AboveDesire => 14,
+        CallAnswer::NoQuantum => 15,
+        CallAnswer::WrongChoiceCount => 16,
+        CallAnswer::BadChoice => 17,
+    }
 }
 
 // Questions 11 to 14.

@@ -6,7 +6,7 @@ use Prim.Native.Nat.{ℕ, zero, suc, _+_, _*_, _-_, _/_, _%_, _^_}
 use lib.Dec.{leb, ltb, eqb}
 use lib.ListN.{length, getD, take, drop, replicate}
 use Rattle.model.specs.Tests.{below, every, keep, member, count-set, all-set}
-use Rattle.model.specs.Questions.{Answer, answer-number, first-no}
+use Rattle.model.specs.Questions.{Answer, accepted, refused, answer-number, first-no}
 use Rattle.model.specs.Plan
 use Rattle.model.specs.Plan.{Plan, plan-of, plan-answer, form-field, responsiveness-field, utilization-field, quantum-length-field, task-count, count-field, first-field, second-field}
 use Rattle.model.specs.Machine
@@ -48,7 +48,7 @@ failing i (r ∷ rs) = cond (row-holds r) (failing (suc i) rs) (i ∷ failing (s
 
 -- ---- what the rows are made of
 
-plan-a : List ℕ
+abbrev pub plan-a : List ℕ
 plan-a =
     0x15 ∷ 0x40 ∷ 0x00 ∷ 0x08 ∷ 0x03
     ∷ 0x80 ∷ 0x08 ∷ 0x02
@@ -376,8 +376,15 @@ rows = document-rows ++ our-rows
 
 -- every row holds
 pub table : failing 0 rows ≡ []
-unfolding same row-holds failing plan-a task plan-bytes diamond one-task seven easy-seven ten link chain refusal after-calls quantum-kept shown answered listed placed labelled document-rows seven-tasks header-fields task-fields fresh-with quantum-shown current-shown history-shown shown-twice statuses-from statuses plan-rows grant-rows tick-rows quantum-rows log-rows program-rows our-rows rows below every keep member count-set all-set first-no flatMap Plan.predecessors Plan.number Plan.header Plan.task-bits Plan.successor-fields Plan.plan-of Plan.fields-ok Plan.two-differ Plan.targets-ok Plan.task-questions Plan.all-preceded Plan.one-exit Plan.header-questions Plan.graph-questions Plan.plan-questions Plan.plan-answer Machine.finished Machine.fresh Machine.grant-questions Machine.kept-deques Machine.withdrawn-deques Machine.first-task-placed Machine.grant Machine.tick-questions Machine.cycle-of Machine.ready Machine.released Machine.left-by-steal Machine.taken-by-steal Machine.work-cycle Machine.mug-cycle Machine.successful-steal Machine.failed-steal Machine.cycle Machine.cycles Machine.cycles-made Machine.ticked Machine.efficient Machine.satisfied Machine.next-desire Machine.closes Machine.closed Machine.tick Machine.top-desires Machine.call-answer Machine.step Machine.status History.beginning History.history-grant History.history-tick History.history-step History.run-from History.run History.tasks-in Log.entries-up-to Log.entries Log.run-calls Log.run-log Log.log-answer Label.lines-from Label.lines Label.label-answer Label.label Counters.decimal-up-to Counters.decimal Counters.spaced Counters.counters Counters.counters-line Counters.counters-answer Counters.buffer-after Program.plan-length Program.plan-part Program.log-part Program.input-questions Program.refused-line Program.log-output Program.program
+unfolding same row-holds failing task plan-bytes diamond one-task seven easy-seven ten link chain refusal after-calls quantum-kept shown answered listed placed labelled document-rows seven-tasks header-fields task-fields fresh-with quantum-shown current-shown history-shown shown-twice statuses-from statuses plan-rows grant-rows tick-rows quantum-rows log-rows program-rows our-rows rows below every keep member count-set all-set first-no flatMap Plan.predecessors Plan.number Plan.header Plan.task-bits Plan.successor-fields Plan.plan-of Plan.fields-ok Plan.two-differ Plan.targets-ok Plan.task-questions Plan.all-preceded Plan.one-exit Plan.header-questions Plan.graph-questions Plan.plan-questions Plan.plan-answer Machine.finished Machine.fresh Machine.grant-questions Machine.kept-deques Machine.withdrawn-deques Machine.first-task-placed Machine.grant Machine.tick-questions Machine.cycle-of Machine.ready Machine.released Machine.left-by-steal Machine.taken-by-steal Machine.work-cycle Machine.mug-cycle Machine.successful-steal Machine.failed-steal Machine.cycle Machine.cycles Machine.cycles-made Machine.ticked Machine.efficient Machine.satisfied Machine.next-desire Machine.closes Machine.closed Machine.tick Machine.top-desires Machine.call-answer Machine.step Machine.status History.beginning History.history-grant History.history-tick History.history-step History.run-from History.run History.tasks-in Log.entries-up-to Log.entries Log.run-calls Log.run-log Log.log-answer Label.lines-from Label.lines Label.label-answer Label.label Counters.decimal-up-to Counters.decimal Counters.spaced Counters.counters Counters.counters-line Counters.counters-answer Counters.buffer-after Program.plan-length Program.plan-part Program.log-part Program.input-questions Program.refused-line Program.log-output Program.program
 table = refl
+
+-- examples 3 and 4 by themselves, for a program that meets them from contracts alone: Plan A is accepted, a first grant of 2 is refused by
+-- 14, and the status is then 0
+pub plan-a-begins : (plan-answer plan-a ≡ accepted) × (call-answer (grants 2) (fresh (plan-of plan-a)) ≡ refused 14)
+    × (status (fresh (plan-of plan-a)) ≡ 0)
+unfolding same row-holds failing task plan-bytes diamond one-task seven easy-seven ten link chain refusal after-calls quantum-kept shown answered listed placed labelled document-rows seven-tasks header-fields task-fields fresh-with quantum-shown current-shown history-shown shown-twice statuses-from statuses plan-rows grant-rows tick-rows quantum-rows log-rows program-rows our-rows rows below every keep member count-set all-set first-no flatMap Plan.predecessors Plan.number Plan.header Plan.task-bits Plan.successor-fields Plan.plan-of Plan.fields-ok Plan.two-differ Plan.targets-ok Plan.task-questions Plan.all-preceded Plan.one-exit Plan.header-questions Plan.graph-questions Plan.plan-questions Plan.plan-answer Machine.finished Machine.fresh Machine.grant-questions Machine.kept-deques Machine.withdrawn-deques Machine.first-task-placed Machine.grant Machine.tick-questions Machine.cycle-of Machine.ready Machine.released Machine.left-by-steal Machine.taken-by-steal Machine.work-cycle Machine.mug-cycle Machine.successful-steal Machine.failed-steal Machine.cycle Machine.cycles Machine.cycles-made Machine.ticked Machine.efficient Machine.satisfied Machine.next-desire Machine.closes Machine.closed Machine.tick Machine.top-desires Machine.call-answer Machine.step Machine.status History.beginning History.history-grant History.history-tick History.history-step History.run-from History.run History.tasks-in Log.entries-up-to Log.entries Log.run-calls Log.run-log Log.log-answer Label.lines-from Label.lines Label.label-answer Label.label Counters.decimal-up-to Counters.decimal Counters.spaced Counters.counters Counters.counters-line Counters.counters-answer Counters.buffer-after Program.plan-length Program.plan-part Program.log-part Program.input-questions Program.refused-line Program.log-output Program.program
+plan-a-begins = (refl, refl, refl)
 
 -- ---- the table of the six top desires: one test over all of its entries
 

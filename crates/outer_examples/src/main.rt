@@ -2,9 +2,9 @@
 // What is printed is held to the file stdout.
 use counters::Counters;
 use counters::LineAnswer;
-use status::Status;
 use label::Found;
 use libc::STDOUT_FILENO;
+use status::Status;
 
 fn word(text: &[u8]) {
     io::write_all(STDOUT_FILENO, text);
