@@ -1,6 +1,6 @@
 -- What the arrays and numbers of a job show: the graph of its plan, and the execution that the workers' cycles move.
 -- Every function here takes plain lists, the arrays' elements.
-use mathlib.Core.Bool.{Bool, cond}
+use mathlib.Core.Bool.{Bool}
 use mathlib.Core.List.{List, [], _∷_, map}
 use Prim.Native.Nat.{ℕ, zero, suc, _+_, _%_}
 use lib.Dec.{eqb}
@@ -9,21 +9,11 @@ use Rattle.model.specs.Tests.{below}
 use Rattle.model.specs.Plan.{Plan}
 use Rattle.model.specs.Machine.{Execution, Counts}
 use Rattle.deque.specs.declared.Deque.{Deque}
+-- what the arrays of a plan show is said once, where plans are read
+unfoldable pub use Rattle.plan.specs.View.{shown, successors-at, successors-view}
 use Rattle.deque.specs.declared.Numbers.{Numbers}
 
 -- ---- the plan's graph
-
--- the successors that two fields show; 0 is an unused field, since no successor is task 0
-unfoldable pub shown : ℕ → ℕ → List ℕ
-shown first second = cond (eqb first 0) [] (cond (eqb second 0) (first ∷ []) (first ∷ second ∷ []))
-
--- the successors of the task t
-unfoldable pub successors-at : List ℕ → List ℕ → ℕ → List ℕ
-successors-at first second t = shown (getD first t 0) (getD second t 0)
-
--- those of each task below n
-unfoldable pub successors-view : List ℕ → List ℕ → ℕ → List (List ℕ)
-successors-view first second n = map (successors-at first second) (below n)
 
 -- a plan with these successors. A cycle reads nothing else of a plan, so R, D and L are the least that a plan may have.
 abbrev pub graph-plan : List (List ℕ) → Plan

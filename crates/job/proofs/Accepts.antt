@@ -19,7 +19,7 @@ use Rattle.laws.proofs.Lists.{count-set-none}
 use Rattle.laws.specs.Awaited.{still-awaited}
 use Rattle.laws.proofs.Readiness.{first-ready}
 use Rattle.laws.proofs.Awaiting.{awaits-none, awaited-at-first}
-use Rattle.deque.specs.View.{graph, successors-view, successors-at, shown, view, worked-view, deques-view, muggable-view}
+use Rattle.deque.specs.View.{graph, successors-view, worked-view, deques-view, muggable-view}
 use Rattle.deque.specs.Sound.{awaited, Kept}
 use Rattle.deque.proofs.Tables.{table-length, table-at}
 use Rattle.deque.proofs.Views.{tasks-shown}
@@ -47,7 +47,7 @@ no-flags f n h =
 
 module _ (bytes : List ℕ) (p : PlanRecord) (answer : plan-answer bytes ≡ accepted) (holds : Holds bytes p) where
   pub fresh-plan : job-plan (fresh-job p) ≡ plan-of bytes
-  unfolding fresh-job no-numbers plan-view successors-view successors-at shown PlanView.plan-view PlanView.successors-view PlanView.successors-at PlanView.shown
+  unfolding fresh-job no-numbers plan-view PlanView.plan-view
   fresh-plan = holds .shows
 
   same-successors : successors-view (p .first) (p .second) (p .tasks) ≡ plan-of bytes .successors
