@@ -38,6 +38,11 @@ module _ (ran : Ran) (k : Counters) (of : CountersOf ran k) (b b' : List ℕ) (s
   unfolding counters-line
   text plan s answer e f = rw (e, f)
 
+  same-length : length b' ≡ length b
+  same-length =
+      let x = spaced (numbers-of k) in
+      ap length (line .bytes ∙ sym (put-start x b)) ∙ length-put 0 x b (omega (arith, line .short, line .long))
+
   pub whole-printed : ran .answer ≡ Whole → PrintsRan ran (record { bytes = b'; size = size })
   whole-printed whole =
       record {
@@ -47,7 +52,7 @@ module _ (ran : Ran) (k : Counters) (of : CountersOf ran k) (b b' : List ℕ) (s
                   read-back (spaced (numbers-of k)) b b' size (line .long) (line .bytes)
                   ∙ sym (append-nil (spaced (numbers-of k)))
                   ∙ text plan _ Whole (of .right plan calls first second pending next ends reached) whole;
-              fits = omega (arith, line .short);
+              fits = omega (arith, line .short, same-length);
             };
       }
 
@@ -75,7 +80,7 @@ module _ (ran : Ran) (k : Counters) (of : CountersOf ran k) (b b' : List ℕ) (s
               written =
                   read-back (x ++ y) b b₂ end (omega (arith, line .long, length-append x y)) both
                   ∙ text plan _ BrokenEntry (of .right plan calls first second pending next ends reached) broken;
-              fits = omega (arith, line .short, refused-short 18 (lit< tt));
+              fits = omega (arith, refusal-room, ap length b₂-is, length-put size y b' refusal-room);
             };
       }
 

@@ -19,7 +19,7 @@ use Rattle.program.specs.declared.Output.{Output}
 -- the output's bytes are these
 pub record Prints (printed : List ℕ) (r : Output) : Type 0 where
   pub written : take (r .size) (r .bytes) ≡ printed
-  pub fits : r .size ≤ 256
+  pub fits : r .size ≤ length (r .bytes)
 
 -- a counters line was put at the start of a buffer: its length, and the buffer after
 pub record LinePut (k : Counters) (b exit : List ℕ) (size : ℕ) : Type 0 where
