@@ -57,11 +57,7 @@ module _ (ran : Ran) (k : Counters) (of : CountersOf ran k) (b b' : List ℕ) (s
       }
 
   pub refusal-room : size + length (refused-line 18) ≤ length b'
-  refusal-room =
-      let x = spaced (numbers-of k) in
-      let same : length b' ≡ length b =
-      ap length (line .bytes ∙ sym (put-start x b)) ∙ length-put 0 x b (omega (arith, line .short, line .long)) in
-      omega (arith, line .short, refused-short 18 (lit< tt))
+  refusal-room = omega (arith, line .short, refused-short 18 (lit< tt), same-length)
 
   pub broken-printed : (b₂ : List ℕ) (end : ℕ) → ran .answer ≡ BrokenEntry → end ≡ size + length (refused-line 18)
       → b₂ ≡ put size (refused-line 18) b' → PrintsRan ran (record { bytes = b₂; size = end })
