@@ -1,0 +1,2 @@
+-- What the contracts of `program` cite beside the model's definitions.
+pub mod Output
