@@ -1,0 +1,2 @@
+-- Counted: the ten numbers that are taken off a job are model's.
+pub mod Counted

@@ -1,0 +1,24 @@
+-- `report::job_wording` meets its contract: the label of the record's own status. Assumes nothing.
+use borrow.Author.Needs.{needs}
+use mathlib.Core.Path.{sym, _∙_}
+use Rattle.report.proofs.job_wording.Statement.{statement}
+use Rattle.report.proofs.job_wording.Tie as tie
+
+job-status-requires : tie.Need-job-status-requires
+job-status-requires c κs = search needs
+
+number-of-requires : tie.Need-number-of-requires
+number-of-requires c κs = search needs
+
+wording-requires : tie.Need-wording-requires
+wording-requires c κs = search needs
+
+returns : tie.Need-returns
+returns c =
+    let same = c .before .before .number-of .ensures ∙ c .before .before .before .job-status .ensures in
+    let found = c .wording .ensures in
+    rw (← same) (found .0, found .1 .1)
+
+pub job-wording-spec : {M : Type 1} → statement M
+job-wording-spec =
+    tie.close (tie.spec job-status-requires number-of-requires wording-requires returns)
