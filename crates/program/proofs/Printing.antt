@@ -5,7 +5,7 @@ use mathlib.Core.List.{List, [], _∷_, _++_, append-assoc}
 use Prim.Native.Nat.{ℕ, _+_, _^_, _≤_, _<_}
 use native.Mathlib.Numerals.{add-one}
 use native.Mathlib.Omega.{arith}
-use lib.ListN.{length, take, drop, getD, set, length-append}
+use lib.ListN.{length, take, drop, getD, set, length-append, length-set}
 use lib.Seq.{paste, paste-suc, length-paste, take-length, take-at}
 use borrow.Author.Tests.{le-leb}
 use Rattle.model.specs.Questions.{Answer, accepted, first-no, by-answer}
@@ -57,7 +57,7 @@ pub record RefusalPut (at n : ℕ) (b b₂ : List ℕ) (next : ℕ) : Type 0 whe
   pub inside : next < length b₂
   pub after : next + 1 ≡ at + length (refused-line n)
   pub bytes : set b₂ next 10 ≡ put at (refused-line n) b
-  pub same-length : length (set b₂ next 10) ≡ length b
+  pub same-length : (v : ℕ) → length (set b₂ next v) ≡ length b
 
 module _ (at n : ℕ) (b : List ℕ) (room : at + length (refused-line n) ≤ length b) where
   pub word-room : at + 8 ≤ length b
@@ -77,7 +77,7 @@ module _ (at n : ℕ) (b : List ℕ) (room : at + length (refused-line n) ≤ le
         inside = done .inside;
         after = omega (arith, done .after, refused-long n);
         bytes = bytes;
-        same-length = ap length bytes ∙ length-put at (refused-line n) b room;
+        same-length = λ v. length-set b₂ next v ∙ sym (length-set b₂ next 10) ∙ ap length bytes ∙ length-put at (refused-line n) b room;
       }
 
 -- ---- the counters line

@@ -2,7 +2,7 @@
 -- Assumes nothing.
 use mathlib.Core.Path.{_≡_, refl, sym, ap, _∙_}
 use mathlib.Core.List.{List, [], _++_, append-nil}
-use Prim.Native.Nat.{ℕ, _+_, _≤_}
+use Prim.Native.Nat.{ℕ, _+_, _^_, _≤_, _<_}
 use native.Mathlib.Omega.{arith}
 use native.Mathlib.Nat.{zero-add}
 use lib.Dec.{lit<}
@@ -56,14 +56,16 @@ module _ (ran : Ran) (k : Counters) (of : CountersOf ran k) (b b' : List ℕ) (s
             };
       }
 
-  pub refusal-room : size + length (refused-line 18) ≤ length b'
-  refusal-room = omega (arith, line .short, refused-short 18 (lit< tt), same-length)
+  -- there is room for a refusal behind the line
+  pub refusal-room : (at n : ℕ) → at ≤ 127 → n < 2 ^ 8 → at + length (refused-line n) ≤ length b'
+  refusal-room at n short byte = omega (arith, refused-short n byte, same-length)
 
   pub broken-printed : (b₂ : List ℕ) (end : ℕ) → ran .answer ≡ BrokenEntry → end ≡ size + length (refused-line 18)
       → b₂ ≡ put size (refused-line 18) b' → PrintsRan ran (record { bytes = b₂; size = end })
   broken-printed b₂ end broken end-is b₂-is =
       let x = spaced (numbers-of k) in
       let y = refused-line 18 in
+      let behind = refusal-room size 18 (line .short) (lit< tt) in
       let both : b₂ ≡ put-at-start (x ++ y) b =
       b₂-is
       ∙ ap (λ (n : ℕ). put n y b') (line .long ∙ sym (zero-add (length x)))
@@ -76,7 +78,7 @@ module _ (ran : Ran) (k : Counters) (of : CountersOf ran k) (b b' : List ℕ) (s
               written =
                   read-back (x ++ y) b b₂ end (omega (arith, line .long, length-append x y)) both
                   ∙ text plan _ BrokenEntry (of .right plan calls first second pending next ends reached) broken;
-              fits = omega (arith, refusal-room, ap length b₂-is, length-put size y b' refusal-room);
+              fits = omega (arith, behind, ap length b₂-is, length-put size y b' behind);
             };
       }
 

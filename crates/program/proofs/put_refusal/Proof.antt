@@ -39,7 +39,7 @@ add-result : tie.Need-add-result
 add-result c = omega (arith, put-there c .after, start c .pre, start c .good .0)
 
 same-length : tie.Need-same-length
-same-length c = put-there c .same-length
+same-length c = put-there c .same-length _
 
 returns : tie.Need-returns
 returns c = (put-there c .after, put-there c .bytes)

@@ -1,6 +1,7 @@
 -- `program::ran_output` meets its contract: the line of the ten numbers, and behind it that of a broken log. Assumes nothing.
 use mathlib.Core.Path.{refl}
 use native.Mathlib.Omega.{arith}
+use lib.Dec.{lit<}
 use borrow.Author.Needs.{needs}
 use Rattle.program.proofs.Ran.{whole-printed, refusal-room, broken-printed}
 use Rattle.program.proofs.ran_output.Statement.{statement}
@@ -24,7 +25,8 @@ slice-aggregate-put-refusal c = search needs
 put-refusal-requires : tie.Need-put-refusal-requires
 put-refusal-requires c κs =
     let line = c .before .before .before .before in
-    refusal-room _ _ (line .before .before .counters-of .ensures) _ _ _ refl (line .put-line .ensures)
+    refusal-room _ _ (line .before .before .counters-of .ensures) _ _ _ refl (line .put-line .ensures) _ _
+    (omega (arith, line .put-line .ensures .short)) (lit< tt)
 
 returns : tie.Need-returns
 returns c =

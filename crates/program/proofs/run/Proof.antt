@@ -1,5 +1,6 @@
 -- `program::run` meets its contract: the input's questions in their order, then the plan and the log where they stand. Assumes nothing.
 use mathlib.Core.Path.{refl}
+use Prim.Native.Nat.{_+_, _*_, _^_, _<_}
 use native.Mathlib.Omega.{arith}
 use borrow.Author.Needs.{needs}
 use Rattle.program.proofs.Asked.{too-long, no-length, cut-short, whole-input}
@@ -25,7 +26,9 @@ wide-requires : tie.Need-wide-requires
 wide-requires c κs = search needs
 
 mul-end : tie.Need-mul-end
-mul-end c = omega (arith, c .wide .ensures, c .before .shared-slice-known2 .given 0)
+mul-end c =
+    let known = c .before .shared-slice-known2 .given in
+    omega (arith, c .wide .ensures, known 0, known 1)
 
 shared-slice-read-wide-2 : tie.Need-shared-slice-read-wide-2
 shared-slice-read-wide-2 c = search needs
@@ -33,15 +36,17 @@ shared-slice-read-wide-2 c = search needs
 wide-requires-2 : tie.Need-wide-requires-2
 wide-requires-2 c κs = search needs
 
+-- the two bytes make a number of 16 bits
+two-bytes : (c : tie.After-wide2) → c .before .before .wide .result * 256 + c .wide2 .result < 2 ^ 16
+two-bytes c =
+    let known = c .before .shared-slice-known3 .given in
+    omega (arith, c .wide2 .ensures, c .before .before .wide .ensures, known 0, known 1)
+
 add-end : tie.Need-add-end
-add-end c =
-    omega
-    (arith, c .wide2 .ensures, c .before .shared-slice-known3 .given 1, c .before .before .wide .ensures, c .before .before .before .shared-slice-known2 .given 0)
+add-end c = omega (arith, two-bytes c)
 
 add-end-2 : tie.Need-add-end-2
-add-end-2 c =
-    omega
-    (arith, c .wide2 .ensures, c .before .shared-slice-known3 .given 1, c .before .before .wide .ensures, c .before .before .before .shared-slice-known2 .given 0)
+add-end-2 c = omega (arith, two-bytes c)
 
 refusal-requires-3 : tie.Need-refusal-requires-3
 refusal-requires-3 c κs = search needs
