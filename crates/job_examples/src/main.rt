@@ -84,26 +84,8 @@ fn print(shown: Counters, buffer: &mut [u8]) {
 
 // The counters line of a record.
 fn show(job: Job) {
-    let m = job.numbers;
-    let c = job.course;
-    let status = job::status_of(m, c);
-    let works = m.works;
-    let mugs = m.mugs;
-    let steals = m.steals;
-    let shown = Counters {
-        status,
-        worked: m.done,
-        tasks: m.tasks,
-        desire: c.desire,
-        allotment: m.workers,
-        work: works.0,
-        mug: mugs.0,
-        steal: steals.0,
-        successes: m.successes,
-        refusals: 0,
-    };
     let mut line = [0u8; 128];
-    print(shown, &mut line);
+    print(report::counters_of(job.numbers, job.course, 0), &mut line);
 }
 
 // Accepts a plan and plays a log on its record.

@@ -1,6 +1,5 @@
--- Printing: bytes put one after the other, and read back from the start. Counted: the ten numbers of a job. Ran: what is printed after a
--- log. Asked: the questions of the input and of the plan.
+-- Printing: bytes put one after the other, and read back from the start. Ran: what is printed after a log. Asked: the questions of the
+-- input and of the plan.
 pub mod Printing
-pub mod Counted
 pub mod Ran
 pub mod Asked

@@ -10,6 +10,7 @@ use Rattle.model.specs.Program.{refused-lines}
 use Rattle.engine.specs.View.{state-view}
 use Rattle.engine.specs.Reached.{Reached}
 use Rattle.counters.specs.declared.Counters.{Counters}
+use Rattle.report.specs.Shown as Shown
 use Rattle.counters.specs.Line.{numbers-of}
 use Rattle.job.specs.declared.Job.{Job}
 use Rattle.log.specs.declared.Ran.{Ran}
@@ -34,11 +35,9 @@ pub record RanOn (log : List ℕ) (job : Job) (ran : Ran) : Type 0 where
   pub ends : List ℕ
   pub runs : Runs log (job .first) (job .second) (job .pending) (job .next) (job .ends) (job .numbers) (job .course) pending next ends ran
 
--- the ten numbers are those of the state, whatever arrays make the numbers a job
-pub record CountersOf (ran : Ran) (r : Counters) : Type 0 where
-  pub right : (plan : Plan) (calls : List Call) (first second pending next ends : List ℕ) →
-      Reached plan calls first second pending next ends (ran .numbers) (ran .course) →
-      numbers-of r ≡ counters plan (state-view pending next ends (ran .numbers) (ran .course)) (ran .refusals)
+-- the ten numbers are those that are shown of the job, with the log's refused calls
+abbrev pub CountersOf : Ran → Counters → Type 0
+CountersOf ran r = Shown.CountersOf (ran .numbers) (ran .course) (ran .refusals) r
 
 -- "after 18 the count line first, then `refused 18`", whatever arrays make the numbers a job
 pub record PrintsRan (ran : Ran) (r : Output) : Type 0 where

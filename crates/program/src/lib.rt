@@ -77,18 +77,7 @@ fn counters_of(ran: Ran) -> Counters
 {
     let m = ran.numbers;
     let c = ran.course;
-    Counters {
-        status: job::status_of(m, c),
-        worked: m.done,
-        tasks: m.tasks,
-        desire: c.desire,
-        allotment: m.workers,
-        work: m.works.0,
-        mug: m.mugs.0,
-        steal: m.steals.0,
-        successes: m.successes,
-        refusals: ran.refusals,
-    }
+    report::counters_of(m, c, ran.refusals)
 }
 
 // The counters line, and after a broken log `refused 18`.

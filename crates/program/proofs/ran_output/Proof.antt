@@ -25,7 +25,7 @@ slice-aggregate-put-refusal c = search needs
 put-refusal-requires : tie.Need-put-refusal-requires
 put-refusal-requires c κs =
     let line = c .before .before .before .before in
-    refusal-room _ _ (line .before .before .counters-of .ensures) _ _ _ refl (line .put-line .ensures) _ _
+    refusal-room (line .before .before .before .args .ran) _ (line .before .before .counters-of .ensures) _ _ _ refl (line .put-line .ensures) _ _
     (omega (arith, line .put-line .ensures .short)) (lit< tt)
 
 returns : tie.Need-returns
