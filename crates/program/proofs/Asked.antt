@@ -12,6 +12,7 @@ use Rattle.model.specs.Questions.{Answer, accepted, refused, answer-number, fir
 use Rattle.model.specs.Plan.{number, plan-of, plan-answer}
 use Rattle.model.specs.Program.{plan-length, plan-part, log-part, input-questions, refused-line, log-output, output-by, program}
 use Rattle.plan.specs.Answers.{passes}
+use Rattle.plan.proofs.Asked.{passes-is}
 use Rattle.program.specs.declared.Output.{Output}
 use Rattle.program.specs.Output.{Prints}
 
@@ -22,10 +23,6 @@ refused-text : (a : Answer) (output : List ℕ) → passes a ≡ false → refus
 refused-text accepted output e = cc
 refused-text (refused n) output e = refl
 
-passed-is : (a : Answer) → passes a ≡ true → a ≡ accepted
-passed-is accepted e = refl
-passed-is (refused n) e = cc
-
 -- what the code has of the plan's answer
 module _ (a x : Answer) (passed : Bool) (same : a ≡ x) (test : passed ≡ passes a) where
   pub refused-plan : (n : ℕ) (output : List ℕ) (r : Output) → passed ≡ false → n ≡ answer-number a → Prints (refused-line n) r
@@ -34,7 +31,7 @@ module _ (a x : Answer) (passed : Bool) (same : a ≡ x) (test : passed ≡ pass
       rw (number-is, refused-text a output (sym test ∙ fails), same) at p
 
   pub accepted-plan : passed ≡ true → x ≡ accepted
-  accepted-plan passes-it = sym same ∙ passed-is a (sym test ∙ passes-it)
+  accepted-plan passes-it = sym same ∙ passes-is a (sym test ∙ passes-it)
 
 pub after-plan : (x : Answer) (output : List ℕ) (r : Output) → x ≡ accepted → Prints output r → Prints (output-by x output) r
 after-plan x output r e p = rw e p

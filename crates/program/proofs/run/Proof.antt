@@ -2,6 +2,7 @@
 use mathlib.Core.Path.{refl}
 use Prim.Native.Nat.{_+_, _*_, _^_, _<_}
 use native.Mathlib.Omega.{arith}
+use denote.Ref.{now}
 use borrow.Author.Needs.{needs}
 use Rattle.program.proofs.Asked.{too-long, no-length, cut-short, whole-input}
 use Rattle.program.proofs.run.Statement.{statement}
@@ -11,13 +12,17 @@ refusal-requires : tie.Need-refusal-requires
 refusal-requires c κs = search needs
 
 returns : tie.Need-returns
-returns c = too-long _ _ (c .before .if1 .taken) (c .refusal .ensures)
+returns c =
+    let input = now (c .before .before .before .args .input) in
+    too-long input _ (omega (arith, c .before .if1 .taken)) (c .refusal .ensures)
 
 refusal-requires-2 : tie.Need-refusal-requires-2
 refusal-requires-2 c κs = search needs
 
 returns-2 : tie.Need-returns-2
-returns-2 c = no-length _ _ (c .before .before .if1 .left) (c .before .if2 .taken) (c .refusal2 .ensures)
+returns-2 c =
+    let input = now (c .before .before .before .before .args .input) in
+    no-length input _ (omega (arith, c .before .before .if1 .left)) (omega (arith, c .before .if2 .taken)) (c .refusal2 .ensures)
 
 shared-slice-read-wide : tie.Need-shared-slice-read-wide
 shared-slice-read-wide c = search needs
