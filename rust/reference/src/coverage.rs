@@ -1,0 +1,256 @@
+//! Counts which refusals and which branches the generated cases reach.
+
+use std::fmt;
+
+use crate::counters::counters_line;
+use crate::generator::Case;
+use crate::job::{Cycle, GrantReport, Job, TickReport};
+use crate::label::wording;
+use crate::log::{run_log_with, Report};
+use crate::program::split_input;
+use crate::quantum::{QuantumEnd, MOST_WORKERS};
+use crate::refusal::Refusal;
+
+/// The branches of grant, tick and quantum's end.
+#[derive(Clone, Copy, Debug, PartialEq, Eq)]
+pub enum Branch {
+    GrantZero,
+    GrantFirst,
+    GrantFirstAfterZero,
+    GrantGrow,
+    GrantSame,
+    GrantShrinkEmpty,
+    GrantShrinkNonempty,
+    WorkNoneReady,
+    WorkOneReady,
+    WorkTwoReady,
+    MugOne,
+    MugMany,
+    StealSuccess,
+    StealVainOther,
+    StealVainSelf,
+    FinishAlone,
+    FinishSkipping,
+    FinishAtLastTick,
+    EndInefficient,
+    EndInefficientDeprived,
+    EndGrown,
+    EndAtCap,
+    EndDeprived,
+    EndOfZero,
+}
+
+use Branch::*;
+
+/// Every branch with what it is.
+pub const BRANCHES: [(Branch, &str); 24] = [
+    (GrantZero, "grant: of 0"),
+    (GrantFirst, "grant: the first above 0"),
+    (
+        GrantFirstAfterZero,
+        "grant: the first above 0, after one of 0",
+    ),
+    (GrantGrow, "grant: workers come"),
+    (GrantSame, "grant: as many as before"),
+    (GrantShrinkEmpty, "grant: an empty deque vanishes"),
+    (GrantShrinkNonempty, "grant: a deque becomes muggable"),
+    (WorkNoneReady, "tick: work, no successor ready"),
+    (WorkOneReady, "tick: work, one successor ready"),
+    (WorkTwoReady, "tick: work, two successors ready"),
+    (MugOne, "tick: mug of one task"),
+    (MugMany, "tick: mug of two or more tasks"),
+    (StealSuccess, "tick: steal"),
+    (StealVainOther, "tick: steal in vain from another"),
+    (StealVainSelf, "tick: steal in vain from itself"),
+    (FinishAlone, "tick: finish, no later worker"),
+    (FinishSkipping, "tick: finish, later workers skipped"),
+    (FinishAtLastTick, "tick: finish in a quantum's last tick"),
+    (EndInefficient, "end: inefficient, satisfied"),
+    (EndInefficientDeprived, "end: inefficient, deprived"),
+    (EndGrown, "end: efficient, satisfied, desire grows"),
+    (EndAtCap, "end: efficient, satisfied, desire at its top"),
+    (EndDeprived, "end: efficient, deprived"),
+    (EndOfZero, "end: of a quantum of 0 workers"),
+];
+
+/// How often each thing was reached.
+#[derive(Clone, Debug)]
+pub struct Coverage {
+    cases: u64,
+    calls: u64,
+    refusals: [u64; Refusal::ALL.len()],
+    branches: [u64; BRANCHES.len()],
+    statuses: [u64; 4],
+    responsiveness: [u64; 8],
+    allotments: [u64; MOST_WORKERS + 1],
+}
+
+impl Default for Coverage {
+    fn default() -> Coverage {
+        Coverage {
+            cases: 0,
+            calls: 0,
+            refusals: [0; Refusal::ALL.len()],
+            branches: [0; BRANCHES.len()],
+            statuses: [0; 4],
+            responsiveness: [0; 8],
+            allotments: [0; MOST_WORKERS + 1],
+        }
+    }
+}
+
+/// Adds one at a place, if it is there.
+fn add(counts: &mut [u64], place: usize) {
+    if let Some(count) = counts.get_mut(place) {
+        *count += 1;
+    }
+}
+
+impl Coverage {
+    /// How often a refusal was reached.
+    pub fn refusal(&self, refusal: Refusal) -> u64 {
+        let place = usize::from(refusal.number()) - 1;
+        self.refusals.get(place).copied().unwrap_or(0)
+    }
+
+    /// How often a branch was reached.
+    pub fn branch(&self, branch: Branch) -> u64 {
+        self.branches.get(branch as usize).copied().unwrap_or(0)
+    }
+
+    /// How often each responsiveness from 0 to 7 was accepted.
+    pub fn responsiveness(&self) -> &[u64] {
+        &self.responsiveness
+    }
+
+    /// How often each allotment from 0 to 64 was granted.
+    pub fn allotments(&self) -> &[u64] {
+        &self.allotments
+    }
+
+    /// Runs a case through every part of the library and counts.
+    pub fn cover(&mut self, case: &Case) {
+        self.cases += 1;
+        if let Err(refusal) = split_input(&case.input) {
+            self.refuse(refusal);
+        }
+        match Job::accept(&case.plan) {
+            Ok(job) => self.cover_log(job, case),
+            Err(refusal) => self.refuse(refusal),
+        }
+    }
+
+    fn cover_log(&mut self, mut job: Job, case: &Case) {
+        add(&mut self.responsiveness, job.plan().responsiveness());
+        let outcome = run_log_with(&mut job, &case.log, |job, _, answer| {
+            self.calls += 1;
+            match answer {
+                Ok(Report::Grant(report)) => self.cover_grant(job, report),
+                Ok(Report::Tick(report)) => self.cover_tick(job, report),
+                Err(refusal) => self.refuse(*refusal),
+            }
+        });
+        let mut buffer = vec![0; case.buffer];
+        let line = counters_line(&job, outcome.refused, &mut buffer);
+        let part = wording(&case.sheet, job.status());
+        let refusals = [outcome.broken, line.err(), part.err()];
+        refusals.into_iter().flatten().for_each(|r| self.refuse(r));
+        add(&mut self.statuses, usize::from(job.status().number()));
+    }
+
+    fn refuse(&mut self, refusal: Refusal) {
+        add(&mut self.refusals, usize::from(refusal.number()) - 1);
+    }
+
+    fn reach(&mut self, branch: Branch, reached: bool) {
+        if reached {
+            add(&mut self.branches, branch as usize);
+        }
+    }
+
+    fn cover_grant(&mut self, job: &Job, report: &GrantReport) {
+        let withdrawn = report.made_muggable + report.vanished;
+        let first = report.first_above_zero;
+        add(&mut self.allotments, job.allotment());
+        self.reach(GrantZero, job.allotment() == 0);
+        self.reach(GrantFirst, first);
+        self.reach(GrantFirstAfterZero, first && job.quanta_begun() > 1);
+        self.reach(GrantGrow, report.added > 0);
+        self.reach(GrantSame, report.added == 0 && withdrawn == 0);
+        self.reach(GrantShrinkEmpty, report.vanished > 0);
+        self.reach(GrantShrinkNonempty, report.made_muggable > 0);
+    }
+
+    fn cover_tick(&mut self, job: &Job, report: &TickReport) {
+        for (worker, cycle) in report.cycles.iter().enumerate() {
+            self.reach(cycle_branch(worker, cycle), true);
+        }
+        let length = job.plan().quantum_length();
+        let last = job.open_quantum().map(|q| q.ticks) == Some(length);
+        self.reach(FinishAlone, job.is_finished() && report.skipped == 0);
+        self.reach(FinishSkipping, report.skipped > 0);
+        self.reach(FinishAtLastTick, last);
+        if let Some(end) = report.quantum_end {
+            self.cover_end(job, end);
+        }
+    }
+
+    fn cover_end(&mut self, job: &Job, end: QuantumEnd) {
+        let branch = match end {
+            QuantumEnd::Inefficient { satisfied: true } => EndInefficient,
+            QuantumEnd::Inefficient { satisfied: false } => EndInefficientDeprived,
+            QuantumEnd::Grown => EndGrown,
+            QuantumEnd::AtCap => EndAtCap,
+            QuantumEnd::Deprived => EndDeprived,
+        };
+        self.reach(branch, true);
+        self.reach(EndOfZero, job.allotment() == 0);
+    }
+}
+
+/// The branch of one worker's cycle.
+fn cycle_branch(worker: usize, cycle: &Cycle) -> Branch {
+    match *cycle {
+        Cycle::Work { enabled: 0, .. } => WorkNoneReady,
+        Cycle::Work { enabled: 1, .. } => WorkOneReady,
+        Cycle::Work { .. } => WorkTwoReady,
+        Cycle::Mug { length: 1 } => MugOne,
+        Cycle::Mug { .. } => MugMany,
+        Cycle::Steal {
+            stolen: Some(_), ..
+        } => StealSuccess,
+        Cycle::Steal { victim, .. } if victim == worker => StealVainSelf,
+        Cycle::Steal { .. } => StealVainOther,
+    }
+}
+
+impl fmt::Display for Coverage {
+    fn fmt(&self, out: &mut fmt::Formatter<'_>) -> fmt::Result {
+        writeln!(out, "{:>10}  cases", self.cases)?;
+        writeln!(out, "{:>10}  calls", self.calls)?;
+        for refusal in Refusal::ALL {
+            writeln!(out, "{:>10}  refusal {refusal}", self.refusal(refusal))?;
+        }
+        for (branch, name) in BRANCHES {
+            writeln!(out, "{:>10}  {name}", self.branch(branch))?;
+        }
+        for (status, count) in self.statuses.iter().enumerate() {
+            writeln!(out, "{count:>10}  jobs left with status {status}")?;
+        }
+        for (r, count) in self.responsiveness.iter().enumerate().skip(2) {
+            writeln!(out, "{count:>10}  plans with responsiveness {r}")?;
+        }
+        let counts = self.allotments.iter();
+        let reached = counts.filter(|&&count| count > 0).count();
+        writeln!(out, "{reached:>10}  different allotments of 0 to 64")?;
+        write!(out, "{:>10}  things never reached", self.missing())
+    }
+}
+
+impl Coverage {
+    /// How many refusals and branches were never reached.
+    pub fn missing(&self) -> usize {
+        let counts = self.refusals.iter().chain(&self.branches);
+        counts.filter(|&&count| count == 0).count()
+    }
+}

@@ -1,0 +1,163 @@
+//! Damaged plans: each kind of damage aims at one of the refusals 1 to 10.
+
+use super::plans::{Draft, DraftTask};
+use super::random::Random;
+
+/// Damages a sound draft so that this refusal is likely (some graphs are too
+/// small for some damage), and packs it.
+pub fn damaged(random: &mut Random, draft: &Draft, aim: u8) -> Vec<u8> {
+    if draft.tasks.is_empty() {
+        return draft.bytes();
+    }
+    let mut draft = draft.clone();
+    let (task, count) = (random.below(draft.tasks.len()), draft.tasks.len());
+    match aim {
+        2 => draft.form = *random.pick(&[0, 2, 3, 5, 9, 15]).unwrap_or(&0),
+        3 => draft.responsiveness = random.below(2) as u64,
+        4 => draft.utilization = *random.pick(&[0, 101, 102, 127]).unwrap_or(&0),
+        5 => draft.quantum_length = 0,
+        7 => wrong_count(random, &mut draft.tasks[task]),
+        8 => wrong_successor(random, &mut draft.tasks[task], task, count),
+        9 => wrong_predecessors(random, &mut draft),
+        10 => second_sink(random, &mut draft),
+        _ => (),
+    }
+    let mut bytes = draft.bytes();
+    match aim {
+        1 => bytes.truncate(random.below(5)),
+        6 => wrong_length(random, &mut bytes),
+        _ => (),
+    }
+    bytes
+}
+
+/// Damages a draft twice, so that the order of the questions matters.
+pub fn damaged_twice(random: &mut Random, draft: &Draft) -> Vec<u8> {
+    let mut draft = draft.clone();
+    let count = draft.tasks.len();
+    for _ in 0..2.min(count) {
+        let task = random.below(count);
+        match random.below(7) {
+            0 => draft.form = 0,
+            1 => draft.responsiveness = 1,
+            2 => draft.utilization = 101,
+            3 => draft.quantum_length = 0,
+            4 => draft.count_less_one ^= 1,
+            5 => wrong_count(random, &mut draft.tasks[task]),
+            _ => wrong_successor(random, &mut draft.tasks[task], task, count),
+        }
+    }
+    let aim = random.between(1, 10) as u8;
+    damaged(random, &draft, aim)
+}
+
+/// Turns some bits of a packed plan around.
+pub fn flipped(random: &mut Random, draft: &Draft) -> Vec<u8> {
+    let mut bytes = draft.bytes();
+    for _ in 0..random.between(1, 3) {
+        let (place, bit) = (random.below(bytes.len()), random.below(8));
+        bytes[place] ^= 1 << bit;
+    }
+    bytes
+}
+
+/// Cut short after the header, or too long by a little.
+fn wrong_length(random: &mut Random, bytes: &mut Vec<u8>) {
+    if random.chance(128) {
+        let cut = random.between(1, bytes.len() - 5);
+        bytes.truncate(bytes.len() - cut);
+    } else {
+        let extra = random.between(1, 4);
+        let more = random.bytes(extra);
+        bytes.extend(more);
+    }
+}
+
+/// A count of 3 or an unused field that is not 0.
+fn wrong_count(random: &mut Random, task: &mut DraftTask) {
+    let other = random.between(1, 2047) as u32;
+    match task.count {
+        0 if random.chance(128) => task.first = other,
+        0 | 1 if random.chance(128) => task.second = other,
+        2 if random.chance(128) => task.count = 1,
+        _ => task.count = 3,
+    }
+}
+
+/// A successor that is not above its task, is no task, or is named twice.
+fn wrong_successor(random: &mut Random, task: &mut DraftTask, number: usize, count: usize) {
+    let low = random.between(0, number) as u32;
+    let high = random.between(count, 2047) as u32;
+    let wrong = *random.pick(&[low, high, count as u32]).unwrap_or(&low);
+    match task.count {
+        2 if random.chance(85) => task.second = task.first,
+        2 if random.chance(128) => task.second = wrong,
+        0 => {
+            task.count = 1;
+            task.first = wrong;
+        }
+        _ => task.first = wrong,
+    }
+}
+
+/// The number of predecessors of each task.
+fn predecessor_counts(draft: &Draft) -> Vec<usize> {
+    let mut counts = vec![0; draft.tasks.len()];
+    for task in &draft.tasks {
+        for &field in &[task.first, task.second][..(task.count as usize).min(2)] {
+            if let Some(count) = counts.get_mut(field as usize) {
+                *count += 1;
+            }
+        }
+    }
+    counts
+}
+
+/// No predecessor or three.
+fn wrong_predecessors(random: &mut Random, draft: &mut Draft) {
+    let counts = predecessor_counts(draft);
+    let only = |task: &DraftTask| counts.get(task.first as usize) == Some(&1);
+    let mut places: Vec<usize> = (0..draft.tasks.len()).collect();
+    let third = random.chance(128);
+    if third {
+        places.retain(|&i| third_predecessor(draft, &counts, i).is_some());
+    } else {
+        places.retain(|&i| draft.tasks[i].count > 0 && only(&draft.tasks[i]));
+    }
+    let place = match random.pick(&places) {
+        Some(&place) => place,
+        None => return,
+    };
+    if let (true, Some(target)) = (third, third_predecessor(draft, &counts, place)) {
+        draft.tasks[place].count = 2;
+        draft.tasks[place].second = target;
+    } else {
+        drop_first(&mut draft.tasks[place]);
+    }
+}
+
+/// A task that has two predecessors and could get this one as a third.
+fn third_predecessor(draft: &Draft, counts: &[usize], place: usize) -> Option<u32> {
+    let task = &draft.tasks[place];
+    let fits = |&i: &usize| task.count == 1 && counts[i] == 2 && i as u32 != task.first;
+    (place + 1..counts.len()).find(fits).map(|i| i as u32)
+}
+
+/// A task other than the last that loses its only successor, which keeps
+/// another predecessor.
+fn second_sink(random: &mut Random, draft: &mut Draft) {
+    let counts = predecessor_counts(draft);
+    let shares = |task: &DraftTask| counts.get(task.first as usize) == Some(&2);
+    let mut places: Vec<usize> = (0..draft.tasks.len()).collect();
+    places.retain(|&i| draft.tasks[i].count == 1 && shares(&draft.tasks[i]));
+    if let Some(&place) = random.pick(&places) {
+        drop_first(&mut draft.tasks[place]);
+    }
+}
+
+/// Removes the first successor.
+fn drop_first(task: &mut DraftTask) {
+    task.count = task.count.saturating_sub(1);
+    task.first = task.second;
+    task.second = 0;
+}

@@ -1,0 +1,12 @@
+//! Random plans, logs and whole cases from a seed. The same seed gives the
+//! same cases on every machine.
+
+pub mod case;
+pub mod damage;
+pub mod graph;
+pub mod logs;
+pub mod plans;
+pub mod random;
+
+pub use case::{cases, Case};
+pub use random::Random;

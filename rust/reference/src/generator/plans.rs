@@ -1,0 +1,124 @@
+//! Plans before they are bytes, so that each field can be set on its own.
+
+use super::graph::{graph, Graph, Shape, MOST_TASKS};
+use super::random::Random;
+
+/// One task's fields as they will be packed.
+#[derive(Clone, Copy, Debug, Default, PartialEq, Eq)]
+pub struct DraftTask {
+    pub count: u32,
+    pub first: u32,
+    pub second: u32,
+}
+
+/// A plan's fields as they will be packed, sound or not.
+#[derive(Clone, Debug, PartialEq, Eq)]
+pub struct Draft {
+    pub form: u64,
+    pub responsiveness: u64,
+    pub utilization: u64,
+    pub quantum_length: u64,
+    pub count_less_one: u64,
+    pub tasks: Vec<DraftTask>,
+}
+
+impl Draft {
+    /// A sound draft of a graph.
+    pub fn of_graph(graph: &Graph) -> Draft {
+        let field = |list: &Vec<u16>, i: usize| list.get(i).copied().map_or(0, u32::from);
+        let draft = |list: &Vec<u16>| DraftTask {
+            count: list.len() as u32,
+            first: field(list, 0),
+            second: field(list, 1),
+        };
+        Draft {
+            form: 1,
+            responsiveness: 2,
+            utilization: 80,
+            quantum_length: 2,
+            count_less_one: (graph.len() as u64).saturating_sub(1),
+            tasks: graph.iter().map(draft).collect(),
+        }
+    }
+
+    /// The packed bytes; what does not fit in a field is cut off.
+    pub fn bytes(&self) -> Vec<u8> {
+        let header = (self.form & 15) << 36
+            | (self.responsiveness & 7) << 33
+            | (self.utilization & 127) << 26
+            | (self.quantum_length & 65_535) << 10
+            | self.count_less_one & 1023;
+        let mut bytes = header.to_be_bytes()[3..].to_vec();
+        for task in &self.tasks {
+            let word = (task.count & 3) << 22 | (task.first & 2047) << 11 | task.second & 2047;
+            bytes.extend_from_slice(&word.to_be_bytes()[1..]);
+        }
+        bytes
+    }
+}
+
+/// A sound plan of any kind.
+pub fn sound_draft(random: &mut Random) -> Draft {
+    if random.chance(40) {
+        return wide_draft(random);
+    }
+    let count = task_count(random);
+    let shape = shape(random);
+    let mut draft = Draft::of_graph(&graph(random, shape, count));
+    draft.responsiveness = random.between(2, 7) as u64;
+    draft.utilization = utilization(random);
+    draft.quantum_length = quantum_length(random);
+    draft
+}
+
+/// A wide graph with short and easily efficient quanta, so that the desire
+/// climbs to its top and many workers are granted.
+pub fn wide_draft(random: &mut Random) -> Draft {
+    let count = random.between(500, MOST_TASKS);
+    let width = random.between(40, 200);
+    let mut draft = Draft::of_graph(&graph(random, Shape::Layered { width }, count));
+    draft.responsiveness = random.between(2, 7) as u64;
+    draft.utilization = random.between(1, 40) as u64;
+    draft.quantum_length = random.between(1, 4) as u64;
+    draft
+}
+
+/// Mostly small, at times up to the most there can be.
+fn task_count(random: &mut Random) -> usize {
+    match random.below(16) {
+        0 => random.between(1, 2),
+        1..=7 => random.between(2, 24),
+        8..=13 => random.between(16, 160),
+        14 => random.between(100, MOST_TASKS),
+        _ => *random.pick(&[1, 2, 1023, MOST_TASKS]).unwrap_or(&1),
+    }
+}
+
+fn shape(random: &mut Random) -> Shape {
+    let width = random.between(2, 40);
+    match random.below(8) {
+        0 => Shape::Chain,
+        1 => Shape::Comb,
+        2 | 3 => Shape::ForkJoin,
+        4 | 5 => Shape::Layered { width },
+        _ => Shape::Tangled { width },
+    }
+}
+
+fn utilization(random: &mut Random) -> u64 {
+    match random.below(8) {
+        0 => 1,
+        1 => 100,
+        2 => 80,
+        3 | 4 => random.between(1, 30) as u64,
+        _ => random.between(1, 100) as u64,
+    }
+}
+
+fn quantum_length(random: &mut Random) -> u64 {
+    match random.below(32) {
+        0 => 65_535,
+        1..=3 => random.between(10, 400) as u64,
+        _ => random.between(1, 8) as u64,
+    }
+}

@@ -1,0 +1,391 @@
+//! The job record: "Grant", "Tick" and the statuses of document 01.
+
+use std::collections::VecDeque;
+use std::sync::Arc;
+
+use crate::plan::{read_plan, Plan};
+use crate::quantum::{classify, is_efficient, next_desire, QuantumEnd};
+use crate::refusal::{ask, Refusal};
+
+/// No more quanta than this begin.
+pub const MOST_QUANTA: u32 = 65_535;
+
+/// A deque (document 01: line) of ready tasks. The front is the one its
+/// worker works on, the back is what others may steal.
+pub type Deque = VecDeque<u16>;
+
+/// The status, with document 01's numbers.
+#[derive(Clone, Copy, Debug, PartialEq, Eq, Hash)]
+pub enum Status {
+    /// Nothing above 0 was ever granted.
+    Fresh = 0,
+    /// Neither of the others.
+    Running = 1,
+    /// The last allotment is 0 (document 01: held).
+    Held = 2,
+    /// Every task is worked.
+    Finished = 3,
+}
+
+impl Status {
+    /// Document 01's number of this status.
+    pub fn number(self) -> u8 {
+        self as u8
+    }
+}
+
+/// The open quantum (document 01: round).
+#[derive(Clone, Copy, Debug, Default, PartialEq, Eq)]
+pub struct OpenQuantum {
+    /// Ticks done in this quantum.
+    pub ticks: u32,
+    /// Nonsteal usage (document 01: usage): its work plus mug cycles.
+    pub usage: u64,
+}
+
+/// A job (document 01: job record). Comes from [`Job::accept`] or
+/// [`Job::new`] only, and is moved by [`Job::grant`] and [`Job::tick`] only.
+///
+/// A finished job keeps its last quantum open as the finishing tick left it:
+/// that tick is counted in `ticks`, its cycles in `usage`.
+#[derive(Clone, Debug, PartialEq, Eq)]
+pub struct Job {
+    plan: Arc<Plan>,
+    worked: Vec<bool>,
+    worked_count: usize,
+    deques: Vec<Deque>,
+    muggable: VecDeque<Deque>,
+    desire: usize,
+    quantum: Option<OpenQuantum>,
+    quanta_begun: u32,
+    work_cycles: u64,
+    mug_cycles: u64,
+    steal_cycles: u64,
+    successful_steals: u64,
+    ever_granted: bool,
+}
+
+/// What an accepted grant did.
+#[derive(Clone, Copy, Debug, PartialEq, Eq)]
+pub struct GrantReport {
+    /// Workers that came, with empty deques.
+    pub added: usize,
+    /// Withdrawn workers whose deque became muggable.
+    pub made_muggable: usize,
+    /// Withdrawn workers whose deque was empty and vanished.
+    pub vanished: usize,
+    /// Whether this was the first grant above 0, which hands out task 0.
+    pub first_above_zero: bool,
+}
+
+/// One worker's cycle in a tick.
+#[derive(Clone, Copy, Debug, PartialEq, Eq)]
+pub enum Cycle {
+    /// A work cycle (document 01: work tick) on `task`; that many of its
+    /// successors became ready.
+    Work { task: u16, enabled: usize },
+    /// A mug cycle (document 01: mug tick) that took a deque of this length.
+    Mug { length: usize },
+    /// A steal cycle (document 01: steal tick), in vain if nothing was stolen.
+    Steal { victim: usize, stolen: Option<u16> },
+}
+
+/// What an accepted tick did.
+#[derive(Clone, Debug, PartialEq, Eq)]
+pub struct TickReport {
+    /// The cycles of workers 0 and up; ends with the finishing work cycle.
+    pub cycles: Vec<Cycle>,
+    /// Workers after the finishing one, which took no cycle.
+    pub skipped: usize,
+    /// Set if the quantum closed with this tick.
+    pub quantum_end: Option<QuantumEnd>,
+}
+
+/// Acceptance and what a job shows.
+impl Job {
+    /// Reads a plan and makes its fresh job; refusals 1 to 10 make none.
+    pub fn accept(plan: &[u8]) -> Result<Job, Refusal> {
+        read_plan(plan).map(Job::new)
+    }
+
+    /// A fresh job: desire 1, nothing granted.
+    pub fn new(plan: Plan) -> Job {
+        Job {
+            worked: vec![false; plan.task_count()],
+            plan: Arc::new(plan),
+            worked_count: 0,
+            deques: Vec::new(),
+            muggable: VecDeque::new(),
+            desire: 1,
+            quantum: None,
+            quanta_begun: 0,
+            work_cycles: 0,
+            mug_cycles: 0,
+            steal_cycles: 0,
+            successful_steals: 0,
+            ever_granted: false,
+        }
+    }
+
+    /// The job's plan.
+    pub fn plan(&self) -> &Plan {
+        &self.plan
+    }
+
+    /// Which tasks (document 01: pieces) are worked, by number.
+    pub fn worked(&self) -> &[bool] {
+        &self.worked
+    }
+
+    /// How many tasks are worked.
+    pub fn worked_count(&self) -> usize {
+        self.worked_count
+    }
+
+    /// The deques (document 01: lines) of workers 0 up, each front to back.
+    pub fn deques(&self) -> &[Deque] {
+        &self.deques
+    }
+
+    /// The muggable deques (document 01: orphans), oldest first.
+    pub fn muggable_deques(&self) -> &VecDeque<Deque> {
+        &self.muggable
+    }
+
+    /// The desire (document 01: wanted).
+    pub fn desire(&self) -> usize {
+        self.desire
+    }
+
+    /// The allotment (document 01: granted): each worker has one deque. It
+    /// stays when the quantum closes.
+    pub fn allotment(&self) -> usize {
+        self.deques.len()
+    }
+
+    /// The open quantum (document 01: round), if one is open.
+    pub fn open_quantum(&self) -> Option<OpenQuantum> {
+        self.quantum
+    }
+
+    /// Quanta begun, those of 0 workers too.
+    pub fn quanta_begun(&self) -> u32 {
+        self.quanta_begun
+    }
+
+    /// Work cycles (document 01: work ticks).
+    pub fn work_cycles(&self) -> u64 {
+        self.work_cycles
+    }
+
+    /// Mug cycles (document 01: mug ticks).
+    pub fn mug_cycles(&self) -> u64 {
+        self.mug_cycles
+    }
+
+    /// Steal cycles (document 01: steal ticks), successful or in vain.
+    pub fn steal_cycles(&self) -> u64 {
+        self.steal_cycles
+    }
+
+    /// Steal cycles that took a task.
+    pub fn successful_steals(&self) -> u64 {
+        self.successful_steals
+    }
+
+    /// Whether any grant above 0 was accepted.
+    pub fn ever_granted(&self) -> bool {
+        self.ever_granted
+    }
+
+    /// Whether every task is worked.
+    pub fn is_finished(&self) -> bool {
+        self.worked_count == self.plan.task_count()
+    }
+
+    /// The status, asked in the order 3, 0, 2, 1.
+    pub fn status(&self) -> Status {
+        if self.is_finished() {
+            Status::Finished
+        } else if !self.ever_granted {
+            Status::Fresh
+        } else if self.allotment() == 0 {
+            Status::Held
+        } else {
+            Status::Running
+        }
+    }
+}
+
+/// Grant.
+impl Job {
+    /// Grants that many workers and opens a quantum, or refuses with 11 to 14
+    /// and changes nothing.
+    pub fn grant(&mut self, allotment: usize) -> Result<GrantReport, Refusal> {
+        self.ask_grant(allotment)?;
+        let mut report = self.resize(allotment);
+        if !self.ever_granted {
+            if let Some(deque) = self.deques.first_mut() {
+                deque.push_front(0);
+                self.ever_granted = true;
+                report.first_above_zero = true;
+            }
+        }
+        self.quantum = Some(OpenQuantum::default());
+        self.quanta_begun += 1;
+        Ok(report)
+    }
+
+    fn ask_grant(&self, allotment: usize) -> Result<(), Refusal> {
+        ask(!self.is_finished(), Refusal::JobFinished)?;
+        ask(self.quantum.is_none(), Refusal::QuantumOpen)?;
+        ask(self.quanta_begun < MOST_QUANTA, Refusal::QuantaExhausted)?;
+        ask(allotment <= self.desire, Refusal::GrantAboveDesire)
+    }
+
+    /// Withdraws workers from `allotment` up, in rising order, or adds workers
+    /// with empty deques.
+    fn resize(&mut self, allotment: usize) -> GrantReport {
+        let mut report = GrantReport {
+            added: allotment.saturating_sub(self.deques.len()),
+            made_muggable: 0,
+            vanished: 0,
+            first_above_zero: false,
+        };
+        let kept = allotment.min(self.deques.len());
+        for deque in self.deques.drain(kept..) {
+            if deque.is_empty() {
+                report.vanished += 1;
+            } else {
+                report.made_muggable += 1;
+                self.muggable.push_back(deque);
+            }
+        }
+        self.deques.resize_with(allotment, Deque::new);
+        report
+    }
+}
+
+/// Tick.
+impl Job {
+    /// Does one tick with one choice of a victim for each granted worker, or
+    /// refuses with 11, 15, 16 or 17 and changes nothing.
+    pub fn tick(&mut self, choices: &[u8]) -> Result<TickReport, Refusal> {
+        let mut quantum = self.ask_tick(choices)?;
+        quantum.ticks += 1;
+        let mut cycles = Vec::with_capacity(choices.len());
+        for (worker, &choice) in choices.iter().enumerate() {
+            let cycle = self.cycle(worker, usize::from(choice));
+            quantum.usage += self.count(&cycle);
+            cycles.push(cycle);
+            if self.is_finished() {
+                break;
+            }
+        }
+        self.quantum = Some(quantum);
+        Ok(TickReport {
+            skipped: choices.len() - cycles.len(),
+            quantum_end: self.close_quantum(quantum),
+            cycles,
+        })
+    }
+
+    /// The tick's questions; the open quantum if all answers are yes.
+    fn ask_tick(&self, choices: &[u8]) -> Result<OpenQuantum, Refusal> {
+        ask(!self.is_finished(), Refusal::JobFinished)?;
+        let quantum = self.quantum.ok_or(Refusal::NoQuantumOpen)?;
+        let allotment = self.allotment();
+        ask(choices.len() == allotment, Refusal::ChoiceCountWrong)?;
+        let below = |&choice: &u8| usize::from(choice) < allotment;
+        ask(choices.iter().all(below), Refusal::ChoiceOutOfRange)?;
+        Ok(quantum)
+    }
+
+    /// One worker's cycle: work, else mug, else steal.
+    fn cycle(&mut self, worker: usize, choice: usize) -> Cycle {
+        if let Some(task) = self.deques[worker].pop_front() {
+            let enabled = self.work(worker, task);
+            Cycle::Work { task, enabled }
+        } else if let Some(deque) = self.muggable.pop_front() {
+            let length = deque.len();
+            self.deques[worker] = deque;
+            Cycle::Mug { length }
+        } else {
+            let stolen = self.steal(choice);
+            self.deques[worker].extend(stolen);
+            let victim = choice;
+            Cycle::Steal { victim, stolen }
+        }
+    }
+
+    /// Works a task that has just left the front of the worker's deque. Of
+    /// its successors that became ready the second goes to the front, then
+    /// the first before it. Returns how many became ready.
+    fn work(&mut self, worker: usize, task: u16) -> usize {
+        self.worked[usize::from(task)] = true;
+        self.worked_count += 1;
+        let tasks = self.plan.tasks();
+        let mut enabled = 0;
+        for &successor in tasks[usize::from(task)].successors().iter().rev() {
+            if self.is_ready(successor) {
+                self.deques[worker].push_front(successor);
+                enabled += 1;
+            }
+        }
+        enabled
+    }
+
+    /// Ready: every predecessor is worked.
+    fn is_ready(&self, task: u16) -> bool {
+        let predecessors = self.plan.tasks()[usize::from(task)].predecessors();
+        predecessors.iter().all(|&p| self.worked[usize::from(p)])
+    }
+
+    /// The back task of the victim's deque if that has two or more. The
+    /// thief's own deque is empty, so choosing itself is in vain.
+    fn steal(&mut self, victim: usize) -> Option<u16> {
+        let deque = &mut self.deques[victim];
+        if deque.len() >= 2 {
+            deque.pop_back()
+        } else {
+            None
+        }
+    }
+
+    /// Counts a cycle under its own kind. Returns its part of the usage: work
+    /// and mug cycles are usage, steal cycles are not.
+    fn count(&mut self, cycle: &Cycle) -> u64 {
+        match cycle {
+            Cycle::Work { .. } => {
+                self.work_cycles += 1;
+                1
+            }
+            Cycle::Mug { .. } => {
+                self.mug_cycles += 1;
+                1
+            }
+            Cycle::Steal { stolen, .. } => {
+                self.steal_cycles += 1;
+                self.successful_steals += u64::from(stolen.is_some());
+                0
+            }
+        }
+    }
+
+    /// Closes the quantum after its last tick. The quantum in which the job
+    /// finishes never closes.
+    fn close_quantum(&mut self, quantum: OpenQuantum) -> Option<QuantumEnd> {
+        let plan = &self.plan;
+        if self.is_finished() || quantum.ticks < plan.quantum_length() {
+            return None;
+        }
+        let (r, allotment) = (plan.responsiveness(), self.allotment());
+        let (utilization, length) = (plan.utilization(), plan.quantum_length());
+        let efficient = is_efficient(utilization, length, allotment, quantum.usage);
+        let satisfied = allotment == self.desire;
+        let end = classify(r, self.desire, efficient, satisfied);
+        self.desire = next_desire(r, self.desire, efficient, satisfied);
+        self.quantum = None;
+        Some(end)
+    }
+}

@@ -1,0 +1,32 @@
+//! A second implementation of document 01's scheduler (A-Steal over a task
+//! graph), written from that document alone. It shares no code with the
+//! proved implementation and is there to be compared with it.
+//!
+//! Reading order, which is document 01's: [`plan`], [`job`] (grant and tick),
+//! [`quantum`] (round's end), [`log`], [`label`], [`counters`], [`program`].
+//! [`generator`] makes random plans and logs from a seed and [`coverage`]
+//! counts what they reach.
+//!
+//! Names are the field's terms; each definition says document 01's own word.
+
+#![forbid(unsafe_code)]
+
+pub mod counters;
+pub mod coverage;
+pub mod generator;
+pub mod job;
+pub mod label;
+pub mod log;
+pub mod plan;
+pub mod program;
+pub mod quantum;
+pub mod refusal;
+
+pub use counters::{counters_line, counters_text};
+pub use job::{Cycle, GrantReport, Job, OpenQuantum, Status, TickReport};
+pub use label::wording;
+pub use log::{run_log, run_log_with, Entries, Entry, LogOutcome, Report};
+pub use plan::{read_plan, Plan, Task};
+pub use program::{program_output, split_input};
+pub use quantum::{is_efficient, next_desire, QuantumEnd};
+pub use refusal::Refusal;

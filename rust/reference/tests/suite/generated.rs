@@ -1,0 +1,47 @@
+//! The generator: the same cases for the same seed, and all kinds of them.
+
+use reference::coverage::{Coverage, BRANCHES};
+use reference::generator::graph::{graph, Shape};
+use reference::generator::plans::Draft;
+use reference::generator::{cases, Random};
+use reference::Refusal;
+
+use super::plan_refusal;
+
+#[test]
+fn same_seed_same_cases() {
+    let row = |seed| cases(seed).take(40).collect::<Vec<_>>();
+    assert_eq!(row(5), row(5));
+    assert_ne!(row(5), row(6));
+    assert_eq!(Random::new(0).next_u64(), 0xe220_a839_7b1d_cdaf);
+}
+
+#[test]
+fn graphs_are_sound() {
+    let mut random = Random::new(11);
+    for count in (1..60).chain([1022, 1023, 1024]) {
+        let width = random.between(1, 90);
+        let (layered, tangled) = (Shape::Layered { width }, Shape::Tangled { width });
+        for shape in [Shape::Chain, Shape::Comb, Shape::ForkJoin, layered, tangled] {
+            let drawn = graph(&mut random, shape, count);
+            assert_eq!(plan_refusal(&Draft::of_graph(&drawn).bytes()), 0);
+            assert!(drawn.len() <= count && count <= drawn.len() + 2);
+        }
+    }
+}
+
+#[test]
+fn everything_is_reached() {
+    let mut coverage = Coverage::default();
+    for case in cases(2).take(2_000) {
+        coverage.cover(&case);
+    }
+    for refusal in Refusal::ALL {
+        assert!(coverage.refusal(refusal) > 0, "never refused {refusal}");
+    }
+    for (branch, name) in BRANCHES {
+        assert!(coverage.branch(branch) > 0, "never reached {name}");
+    }
+    assert!(coverage.responsiveness()[2..].iter().all(|&n| n > 0));
+    assert!(coverage.allotments()[0] > 0 && coverage.allotments()[64] > 0);
+}

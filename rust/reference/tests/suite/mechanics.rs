@@ -1,0 +1,105 @@
+//! Deques and desires in hand-worked rows of calls.
+
+use reference::generator::plans::Draft;
+use reference::{Job, OpenQuantum, Status};
+
+use super::{hex, job, PLAN_A};
+
+/// Ten tasks: two levels of forks, two levels of joins; quanta of one tick.
+fn tree() -> Job {
+    let successors: [&[u16]; 10] = [
+        &[1, 2],
+        &[3, 4],
+        &[5, 6],
+        &[7],
+        &[7],
+        &[8],
+        &[8],
+        &[9],
+        &[9],
+        &[],
+    ];
+    let graph = successors.iter().map(|list| list.to_vec()).collect();
+    let mut draft = Draft::of_graph(&graph);
+    draft.quantum_length = 1;
+    job(&draft.bytes())
+}
+
+/// A grant and one tick, both accepted.
+fn quantum(job: &mut Job, choices: &[u8]) {
+    assert!(job.grant(choices.len()).is_ok());
+    assert!(job.tick(choices).is_ok());
+}
+
+#[test]
+fn withdrawn_deques_wait_oldest_first() {
+    let mut job = tree();
+    quantum(&mut job, &[0]);
+    quantum(&mut job, &[0, 0]);
+    assert_eq!(job.deques(), [vec![3, 4], vec![2]]);
+    assert_eq!(job.desire(), 1, "one of two cycles is below 80 percent");
+    quantum(&mut job, &[]);
+    assert_eq!(*job.muggable_deques(), [vec![3, 4], vec![2]]);
+    quantum(&mut job, &[0]);
+    assert_eq!(job.deques(), [vec![3, 4]]);
+    quantum(&mut job, &[]);
+    assert_eq!(*job.muggable_deques(), [vec![2], vec![3, 4]]);
+    quantum(&mut job, &[1, 0]);
+    assert_eq!(job.deques(), [vec![2], vec![3, 4]]);
+    assert_eq!((job.mug_cycles(), job.desire()), (3, 4));
+    quantum(&mut job, &[0, 0, 0, 1]);
+    assert_eq!(job.deques(), [vec![5], vec![4], vec![6], vec![]]);
+    assert_eq!((job.steal_cycles(), job.successful_steals()), (3, 2));
+}
+
+#[test]
+fn a_deque_just_mugged_can_be_robbed() {
+    let mut job = tree();
+    quantum(&mut job, &[0]);
+    quantum(&mut job, &[]);
+    assert_eq!(*job.muggable_deques(), [vec![1, 2]]);
+    quantum(&mut job, &[0, 0]);
+    assert_eq!(job.deques(), [vec![1], vec![2]]);
+    assert_eq!((job.mug_cycles(), job.successful_steals()), (1, 1));
+}
+
+#[test]
+fn only_workers_from_the_grant_up_are_withdrawn() {
+    let mut job = tree();
+    quantum(&mut job, &[0]);
+    quantum(&mut job, &[0, 0]);
+    quantum(&mut job, &[0]);
+    assert_eq!(job.deques(), [vec![4]]);
+    assert_eq!(*job.muggable_deques(), [vec![2]]);
+}
+
+#[test]
+fn the_first_field_goes_to_the_front() {
+    let graph = vec![vec![2, 1], vec![3], vec![3], vec![]];
+    let mut job = job(&Draft::of_graph(&graph).bytes());
+    assert!(job.grant(1).is_ok() && job.tick(&[0]).is_ok());
+    assert_eq!(job.deques(), [vec![2, 1]]);
+}
+
+#[test]
+fn task_0_waits_for_the_first_worker() {
+    let mut job = tree();
+    quantum(&mut job, &[]);
+    assert_eq!((job.status(), job.desire()), (Status::Fresh, 1));
+    assert!(job.muggable_deques().is_empty());
+    assert!(job.grant(1).is_ok());
+    assert_eq!(job.deques(), [vec![0]]);
+}
+
+#[test]
+fn a_quantum_closes_inside_its_last_tick() {
+    let mut job = job(&hex(PLAN_A));
+    assert!(job.grant(1).is_ok() && job.tick(&[0]).is_ok());
+    let open = OpenQuantum { ticks: 1, usage: 1 };
+    assert_eq!((job.open_quantum(), job.desire()), (Some(open), 1));
+    assert!(job.tick(&[0]).is_ok());
+    assert_eq!((job.open_quantum(), job.desire()), (None, 2));
+    assert_eq!((job.status(), job.allotment()), (Status::Running, 1));
+    assert!(job.grant(0).is_ok());
+    assert_eq!((job.status(), job.desire()), (Status::Held, 2));
+}

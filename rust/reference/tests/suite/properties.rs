@@ -1,0 +1,158 @@
+//! What must hold after every call of a few thousand random cases. The
+//! checks keep their own account of the tasks, from the plan and the reports.
+
+use reference::generator::cases;
+use reference::{program_output, Cycle, Entries, Entry, Job, Plan, Refusal, Report, Status};
+
+/// What the checks remember of a job's calls.
+struct Witness {
+    worked: Vec<bool>,
+    largest_allotment: usize,
+}
+
+#[test]
+fn random_cases() {
+    let mut accepted = 0;
+    for case in cases(3).take(3_000) {
+        if let Ok(job) = Job::accept(&case.plan) {
+            accepted += 1;
+            follow(job, &case.log);
+        }
+        assert!(program_output(&case.input).ends_with('\n'));
+    }
+    assert!(accepted > 2_000, "only {accepted} plans were accepted");
+}
+
+/// Follows a log and checks the job after each call.
+fn follow(mut job: Job, log: &[u8]) {
+    let mut witness = Witness {
+        worked: vec![false; job.plan().task_count()],
+        largest_allotment: 0,
+    };
+    check_state(&job, &witness);
+    for (index, item) in Entries::new(log).enumerate() {
+        let entry = match item {
+            Ok(entry) => entry,
+            Err(_) => break,
+        };
+        let before = job.clone();
+        let answer = entry.apply(&mut job);
+        witness.check_call(&before, &entry, &answer, &job);
+        // Late in a long log little happens: every tenth state is enough.
+        if index < 3_000 || index % 10 == 0 {
+            check_state(&job, &witness);
+        }
+    }
+}
+
+impl Witness {
+    fn check_call(
+        &mut self,
+        before: &Job,
+        entry: &Entry,
+        answer: &Result<Report, Refusal>,
+        job: &Job,
+    ) {
+        match (entry, answer) {
+            (_, Err(_)) => assert_eq!(before, job, "a refused call changed the job"),
+            (Entry::Grant(allotment), _) => {
+                self.largest_allotment = self.largest_allotment.max(*allotment);
+                assert_eq!(job.allotment(), *allotment);
+                assert_eq!(job.quanta_begun(), before.quanta_begun() + 1);
+            }
+            (_, Ok(Report::Tick(report))) => {
+                self.check_order(job.plan(), &report.cycles);
+                check_progress(before, job);
+                check_cycles(before, job, &report.cycles);
+            }
+            _ => panic!("a tick with a grant's report"),
+        }
+    }
+
+    /// Each task is worked at most once and after all its predecessors.
+    fn check_order(&mut self, plan: &Plan, cycles: &[Cycle]) {
+        for cycle in cycles {
+            if let Cycle::Work { task, .. } = *cycle {
+                let task = usize::from(task);
+                assert!(!self.worked[task], "task {task} worked twice");
+                assert!(self.is_ready(plan, task), "task {task} worked early");
+                self.worked[task] = true;
+            }
+        }
+    }
+
+    fn is_ready(&self, plan: &Plan, task: usize) -> bool {
+        let mut before = plan.tasks()[task].predecessors().iter();
+        before.all(|&p| self.worked[usize::from(p)])
+    }
+}
+
+/// A tick with a worker granted does a work or mug cycle.
+fn check_progress(before: &Job, job: &Job) {
+    let useful = |job: &Job| job.work_cycles() + job.mug_cycles();
+    if job.allotment() > 0 {
+        assert!(useful(job) > useful(before), "an idle tick");
+    }
+    assert_eq!(job.allotment(), before.allotment());
+}
+
+/// The counts move by the cycles of their own kind, one a worker.
+fn check_cycles(before: &Job, job: &Job, cycles: &[Cycle]) {
+    let count = |wanted: fn(&Cycle) -> bool| cycles.iter().filter(|c| wanted(c)).count() as u64;
+    let work = count(|c| matches!(c, Cycle::Work { .. }));
+    let mug = count(|c| matches!(c, Cycle::Mug { .. }));
+    let steal = count(|c| matches!(c, Cycle::Steal { .. }));
+    let stolen = count(|c| matches!(c, Cycle::Steal { stolen, .. } if stolen.is_some()));
+    assert_eq!(job.work_cycles() - before.work_cycles(), work);
+    assert_eq!(job.mug_cycles() - before.mug_cycles(), mug);
+    assert_eq!(job.steal_cycles() - before.steal_cycles(), steal);
+    assert_eq!(job.successful_steals() - before.successful_steals(), stolen);
+    assert!(cycles.len() == job.allotment() || job.is_finished());
+    if let (Some(old), Some(new)) = (before.open_quantum(), job.open_quantum()) {
+        assert_eq!(new.ticks, old.ticks + 1);
+        assert_eq!(new.usage, old.usage + work + mug);
+    }
+}
+
+/// What holds of a job at any time.
+fn check_state(job: &Job, witness: &Witness) {
+    check_limit(job);
+    check_deques(job, witness);
+    assert_eq!(job.worked(), witness.worked);
+    let worked = witness.worked.iter().filter(|&&w| w).count();
+    assert_eq!(job.worked_count(), worked);
+    assert_eq!(job.work_cycles(), worked as u64);
+    let all = witness.worked.iter().all(|&w| w);
+    assert_eq!(job.status() == Status::Finished, all);
+    assert_eq!(job.ever_granted(), witness.largest_allotment > 0);
+    let r = job.plan().responsiveness();
+    let mut powers = std::iter::successors(Some(1), |power| Some(power * r));
+    let found = powers.find(|&power| power >= job.desire());
+    assert!(job.desire() <= 64 && found == Some(job.desire()));
+}
+
+/// The mug limit: M x L x D is at most 100 x (1 + R) x (W + M).
+fn check_limit(job: &Job) {
+    let (plan, mug) = (job.plan(), u128::from(job.mug_cycles()));
+    let product = u128::from(plan.quantum_length()) * u128::from(plan.utilization());
+    let factor = 100 * (1 + plan.responsiveness() as u128);
+    let useful = u128::from(job.work_cycles()) + mug;
+    assert!(mug * product <= factor * useful, "the mug limit is broken");
+}
+
+/// From the first grant above 0 the deques hold each ready unworked task
+/// once and nothing else, and no more of them are non-empty than workers
+/// were ever granted together.
+fn check_deques(job: &Job, witness: &Witness) {
+    let muggable = job.muggable_deques();
+    assert!(muggable.iter().all(|deque| !deque.is_empty()));
+    let tasks = job.deques().iter().chain(muggable).flatten();
+    let mut held: Vec<usize> = tasks.map(|&task| usize::from(task)).collect();
+    held.sort_unstable();
+    let waits = |&task: &usize| !witness.worked[task] && witness.is_ready(job.plan(), task);
+    let ready: Vec<usize> = (0..witness.worked.len()).filter(waits).collect();
+    let expected = if job.ever_granted() { ready } else { vec![] };
+    assert_eq!(held, expected, "the deques do not hold the ready tasks");
+    let busy = job.deques().iter().filter(|deque| !deque.is_empty());
+    assert!(busy.count() + muggable.len() <= witness.largest_allotment);
+}
