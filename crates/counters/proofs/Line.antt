@@ -16,7 +16,7 @@ use Rattle.status.specs.declared.Status.{Status}
 use Rattle.status.specs.declared.Status.the-variants.{Fresh, Running, Held, Finished}
 use Rattle.counters.specs.declared.Counters.{Counters}
 use Rattle.status.specs.Number.{status-number}
-use Rattle.counters.specs.Line.{after-status, numbers-of}
+use Rattle.counters.specs.Line.{numbers-of}
 use Rattle.counters.proofs.Spaced.{ten-within}
 
 abbrev answer-by : Bool → Answer
@@ -67,12 +67,12 @@ line-within k w =
     (w .successes) (w .refusals)
 
 -- the line has room, and once it is written the promises hold
-module _ (k : Counters) (buffer : List ℕ) (status : ℕ) (same : status ≡ status-number (k .status)) (enough : 128 ≤ length buffer) where
-  pub line-room : Wide k → length (spaced (status ∷ after-status k)) ≤ length buffer
+module _ (k : Counters) (buffer ten : List ℕ) (same : ten ≡ numbers-of k) (enough : 128 ≤ length buffer) where
+  pub line-room : Wide k → length (spaced ten) ≤ length buffer
   line-room w = rw same (omega (arith, line-within k w))
 
-  pub line-written : (size : ℕ) (exit : List ℕ) → size ≡ length (spaced (status ∷ after-status k)) → exit ≡ put-at-start (spaced (status ∷ after-status k)) buffer
-      → Promised buffer (length (spaced (numbers-of k))) (put-at-start (spaced (numbers-of k)) buffer) accepted size exit
+  pub line-written : (size : ℕ) (exit : List ℕ) → size ≡ length (spaced ten) → exit ≡ put-at-start (spaced ten) buffer →
+      Promised buffer (length (spaced (numbers-of k))) (put-at-start (spaced (numbers-of k)) buffer) accepted size exit
   line-written size exit e f = rw (e, f, same) (big-enough buffer _ _ enough)
 
 -- where the ten numbers are those of a job's state, the buffer that `write_line` promises is the model's

@@ -113,17 +113,12 @@ fn put_numbers(numbers: &[u64], buffer: &mut [u8]) -> usize
     put_field(buffer, at, numbers[last], 10)
 }
 
-// Writes the counters line at the start of a buffer of 128 bytes or more. Bytes after the line stay; a smaller buffer stays as it is.
-pub fn write_line(counters: Counters, buffer: &mut [u8]) -> LineAnswer
-    ensures answer { λ r. ⌜ line-answer r ≡ counters-answer (now (buffer .entry)) ⌝ }
-    ensures size { λ r. ⌜ line-length r ≡ by-answer (counters-answer (now (buffer .entry))) (length (spaced (numbers-of counters))) 0 ⌝ }
-    ensures bytes { λ _. ⌜ now (buffer .exit) ≡ by-answer (counters-answer (now (buffer .entry))) (put-at-start (spaced (numbers-of counters)) (now (buffer .entry))) (now (buffer .entry)) ⌝ }
+// The ten numbers, in the line's order.
+pub fn numbers(counters: Counters) -> [u64; 10]
+    ensures { λ r. ⌜ r ≡ numbers-of counters ⌝ }
 {
-    if buffer.len() < 128 {
-        return LineAnswer::TooSmall;
-    }
     let status = counters.status;
-    let numbers = [
+    [
         status::number_of(status) as u64,
         counters.worked as u64,
         counters.tasks as u64,
@@ -134,6 +129,18 @@ pub fn write_line(counters: Counters, buffer: &mut [u8]) -> LineAnswer
         counters.steal,
         counters.successes,
         counters.refusals,
-    ];
-    LineAnswer::Written(put_numbers(&numbers, buffer))
+    ]
+}
+
+// Writes the counters line at the start of a buffer of 128 bytes or more. Bytes after the line stay; a smaller buffer stays as it is.
+pub fn write_line(counters: Counters, buffer: &mut [u8]) -> LineAnswer
+    ensures answer { λ r. ⌜ line-answer r ≡ counters-answer (now (buffer .entry)) ⌝ }
+    ensures size { λ r. ⌜ line-length r ≡ by-answer (counters-answer (now (buffer .entry))) (length (spaced (numbers-of counters))) 0 ⌝ }
+    ensures bytes { λ _. ⌜ now (buffer .exit) ≡ by-answer (counters-answer (now (buffer .entry))) (put-at-start (spaced (numbers-of counters)) (now (buffer .entry))) (now (buffer .entry)) ⌝ }
+{
+    if buffer.len() < 128 {
+        return LineAnswer::TooSmall;
+    }
+    let shown = numbers(counters);
+    LineAnswer::Written(put_numbers(&shown, buffer))
 }

@@ -1,0 +1,2 @@
+-- Words: what is stored is read back.
+pub mod Words

@@ -1,0 +1,1 @@
+//! A safe crate over the proved static library.
