@@ -149,7 +149,11 @@ pub extern "C" fn jirvaldo_core_accept(
 
 // A grant of any number of workers. Refused, the memory stays as it came.
 #[no_mangle]
-pub extern "C" fn jirvaldo_core_grant(ends: &mut [u16; 256], words: &mut [u64; 18], workers: u64) -> u8
+pub extern "C" fn jirvaldo_core_grant(
+    ends: &mut [u16; 256],
+    words: &mut [u64; 18],
+    workers: u64,
+) -> u8
     requires { ⌜ HeldWith (now ends) (now words) ⌝ }
     ensures { λ r. ⌜ Grants workers (now (ends .entry)) (now (words .entry)) (now (ends .exit)) (now (words .exit)) r ⌝ }
 {
@@ -198,11 +202,12 @@ pub extern "C" fn jirvaldo_core_run_log(
     let m = numbers_in(words);
     let c = course_in(words);
     let ran = log::run(first, second, pending, next, ends, m, c, log);
+    let answer = ran.answer;
     let numbers = ran.numbers;
     let course = ran.course;
     store(words, numbers, course);
     *refusals = ran.refusals;
-    log_number(ran.answer)
+    log_number(answer)
 }
 
 // The status of the job.
@@ -217,7 +222,12 @@ pub extern "C" fn jirvaldo_core_status(words: &[u64; 18]) -> u8
 
 // Where the wording of the job's status starts in the sheet, and how many bytes it has.
 #[no_mangle]
-pub extern "C" fn jirvaldo_core_wording(words: &[u64; 18], sheet: &[u8], start: &mut usize, size: &mut usize) -> u8
+pub extern "C" fn jirvaldo_core_wording(
+    words: &[u64; 18],
+    sheet: &[u8],
+    start: &mut usize,
+    size: &mut usize,
+) -> u8
     requires { ⌜ HeldWords (now words) ⌝ }
     ensures { λ r. ⌜ ShowsWording (now (words .entry)) (now (sheet .entry)) (now (start .exit)) (now (size .exit)) r ⌝ }
 {
@@ -245,7 +255,12 @@ pub extern "C" fn jirvaldo_core_counters(words: &[u64; 18], refusals: u64, numbe
 
 // The job's counters line at the start of a buffer of 128 bytes or more, and its size behind `size`. A smaller buffer stays as it came.
 #[no_mangle]
-pub extern "C" fn jirvaldo_core_line(words: &[u64; 18], refusals: u64, buffer: &mut [u8], size: &mut usize) -> u8
+pub extern "C" fn jirvaldo_core_line(
+    words: &[u64; 18],
+    refusals: u64,
+    buffer: &mut [u8],
+    size: &mut usize,
+) -> u8
     requires { ⌜ HeldWords (now words) ⌝ }
     ensures { λ r. ⌜ ShowsLine (now (words .entry)) refusals (now (buffer .entry)) (now (buffer .exit)) (now (size .exit)) r ⌝ }
 {

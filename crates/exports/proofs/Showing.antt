@@ -1,0 +1,75 @@
+-- What is shown of a job in lent memory.
+-- Assumes nothing.
+use mathlib.Core.Path.{_≡_, refl, sym, ap, _∙_}
+use mathlib.Core.List.{List}
+use Prim.Native.Nat.{ℕ}
+use lib.ListN.{length}
+use Rattle.model.specs.Questions.{answer-number, by-answer}
+use Rattle.model.specs.Plan.{Plan}
+use Rattle.model.specs.Machine.{State}
+use Rattle.model.specs.Label.{Stretch, label, label-answer}
+use Rattle.model.specs.Counters.{spaced, counters, counters-line, counters-answer, put-at-start}
+use Rattle.status.specs.declared.Status.{Status}
+use Rattle.status.specs.Number.{status-number}
+use Rattle.label.specs.declared.Found.{Found}
+use Rattle.label.specs.Found.{found-answer, found-stretch}
+use Rattle.counters.specs.declared.Counters.{Counters}
+use Rattle.counters.specs.declared.LineAnswer.{LineAnswer}
+use Rattle.counters.specs.Line.{numbers-of, line-answer, line-length}
+use Rattle.counters.proofs.Line.{model-buffer}
+use Rattle.deque.specs.declared.Numbers.{Numbers}
+use Rattle.engine.specs.declared.Course.{Course}
+use Rattle.job.specs.Status.{StatusOf}
+use Rattle.report.specs.Shown.{CountersOf}
+use Rattle.exports.specs.Memory.{numbers-in, course-in, state-in}
+use Rattle.exports.specs.Promises.{ShowsStatus, ShowsCounters, ShowsLine, ShowsWording}
+
+module _ (words : List ℕ) {m : Numbers} {c : Course} (same-numbers : m ≡ numbers-in words) (same-course : c ≡ course-in words) where
+  pub status-shown : {shown : Status} {r : ℕ} → StatusOf m c shown → r ≡ status-number shown → ShowsStatus words r
+  status-shown of numbered =
+      record {
+        right = λ plan calls first second pending next ends h.
+            numbered ∙ of .right plan calls first second pending next ends (rw (same-numbers, same-course) h) ∙ rw (same-numbers, same-course);
+      }
+
+  pub counters-shown : {refusals : ℕ} {k : Counters} {numbers : List ℕ} → CountersOf m c refusals k → numbers ≡ numbers-of k →
+      ShowsCounters words refusals numbers
+  counters-shown of same =
+      record {
+        right = λ plan calls first second pending next ends h.
+            same ∙ of .right plan calls first second pending next ends (rw (same-numbers, same-course) h) ∙ rw (same-numbers, same-course);
+      }
+
+  -- what looking for the status's line found
+  pub wording-shown : {shown : Status} {number : ℕ} (sheet : List ℕ) (found : Found) → StatusOf m c shown → number ≡ status-number shown →
+      found-answer found ≡ label-answer sheet number → found-stretch found ≡ label sheet number →
+      ShowsWording words sheet (found-stretch found .start) (found-stretch found .size) (answer-number (found-answer found))
+  wording-shown {number = number} sheet found of numbered answered stretch =
+      record {
+        right = λ plan calls first second pending next ends h.
+            let same = status-shown of numbered .right plan calls first second pending next ends h in (
+              ap answer-number answered ∙ ap (λ (s : ℕ). answer-number (label-answer sheet s)) same,
+              ap (λ (s : Stretch). s .start) stretch ∙ ap (λ (s : ℕ). label sheet s .start) same,
+              ap (λ (s : Stretch). s .size) stretch ∙ ap (λ (s : ℕ). label sheet s .size) same,
+            );
+      }
+
+  -- the size of the line of ten numbers that are a job's
+  same-size : (k : Counters) (buffer : List ℕ) (refusals : ℕ) (plan : Plan) (s : State) → numbers-of k ≡ counters plan s refusals →
+      by-answer (counters-answer buffer) (length (spaced (numbers-of k))) 0 ≡ by-answer (counters-answer buffer) (length (counters-line plan s refusals)) 0
+  unfolding counters-line
+  same-size k buffer refusals plan s e = ap (λ (ns : List ℕ). by-answer (counters-answer buffer) (length (spaced ns)) 0) e
+
+  -- what writing the line answered
+  pub line-shown : {refusals : ℕ} (k : Counters) (buffer buffer′ : List ℕ) (answer : LineAnswer) → CountersOf m c refusals k →
+      line-answer answer ≡ counters-answer buffer →
+      line-length answer ≡ by-answer (counters-answer buffer) (length (spaced (numbers-of k))) 0 →
+      buffer′ ≡ by-answer (counters-answer buffer) (put-at-start (spaced (numbers-of k)) buffer) buffer →
+      ShowsLine words refusals buffer buffer′ (line-length answer) (answer-number (line-answer answer))
+  line-shown {refusals} k buffer buffer′ answer of answered sized written =
+      record {
+        answered = ap answer-number answered;
+        right = λ plan calls first second pending next ends h.
+            let same = counters-shown of refl .right plan calls first second pending next ends h in
+            (sized ∙ same-size k buffer refusals plan (state-in pending next ends words) same, written ∙ model-buffer plan (state-in pending next ends words) refusals (numbers-of k) buffer same);
+      }
