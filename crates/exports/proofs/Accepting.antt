@@ -14,7 +14,7 @@ use Rattle.engine.specs.declared.Course.{Course}
 use Rattle.engine.specs.Reached.{Reached}
 use Rattle.job.specs.declared.Acceptance.{Acceptance}
 use Rattle.job.specs.Promises.{Accepting}
-use Rattle.exports.specs.Memory.{numbers-in, course-in, ReachedIn}
+use Rattle.memory.specs.Held.{numbers-in, course-in, ReachedIn}
 use Rattle.exports.specs.Promises.{Accepts}
 
 module _ {bytes first second pending next ends words : List ℕ} {a : Acceptance} {passed : Bool} (accepting : Accepting bytes a)

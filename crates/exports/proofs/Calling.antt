@@ -16,14 +16,9 @@ use Rattle.engine.specs.Reached.{Reached}
 use Rattle.engine.specs.Moves.{Moves, Unchanged}
 use Rattle.engine.proofs.Answers.{IsRefusal}
 use Rattle.engine.proofs.Moving.{not-both}
-use Rattle.exports.specs.Memory.{numbers-in, course-in, plan-in, state-in, ReachedIn, Held}
+use Rattle.memory.specs.Held.{numbers-in, course-in, plan-in, state-in, ReachedIn}
 use Rattle.exports.specs.Steps.{Settled}
 use Rattle.exports.specs.Promises.{Calls}
-
--- the numbers that were read from the words are a job's
-pub held-numbers : {first second pending next ends : List ℕ} (words : List ℕ) {m : Numbers} {c : Course} → m ≡ numbers-in words → c ≡ course-in words →
-    Held first second pending next ends words → (plan : Plan) × (calls : List Call) × Reached plan calls first second pending next ends m c
-held-numbers words same-numbers same-course held = (held .0, held .1, rw (same-numbers, same-course) (held .2))
 
 -- the words after a refused call, and after an accepted one
 module _ (words : List ℕ) (moved : Moved) where

@@ -19,10 +19,11 @@ use Rattle.engine.specs.declared.Moved.{Moved}
 use Rattle.engine.specs.Reached.{Reached}
 use Rattle.engine.specs.Moves.{GrantMoves}
 use Rattle.engine.proofs.Known.{plan-sound, known-measured}
-use Rattle.exports.specs.Memory.{numbers-in, course-in, plan-in, state-in, ReachedIn, HeldWith}
+use Rattle.memory.specs.Held.{numbers-in, course-in, plan-in, state-in, ReachedIn, HeldWith}
 use Rattle.exports.specs.Steps.{least-of-65, Settled}
 use Rattle.exports.specs.Promises.{Calls, Grants}
-use Rattle.exports.proofs.Calling.{held-numbers, called}
+use Rattle.memory.proofs.Reading.{held-numbers}
+use Rattle.exports.proofs.Calling.{called}
 
 -- where the last question is answered no, nothing moves
 stays : (a b c : Bool) (x y : State) → by-answer (first-no (ask a 11 ∷ ask b 12 ∷ ask c 13 ∷ ask false 14 ∷ [])) x y ≡ y

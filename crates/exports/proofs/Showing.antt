@@ -21,7 +21,7 @@ use Rattle.deque.specs.declared.Numbers.{Numbers}
 use Rattle.engine.specs.declared.Course.{Course}
 use Rattle.job.specs.Status.{StatusOf}
 use Rattle.report.specs.Shown.{CountersOf}
-use Rattle.exports.specs.Memory.{numbers-in, course-in, state-in}
+use Rattle.memory.specs.Held.{numbers-in, course-in, state-in}
 use Rattle.exports.specs.Promises.{ShowsStatus, ShowsCounters, ShowsLine, ShowsWording}
 
 module _ (words : List ℕ) {m : Numbers} {c : Course} (same-numbers : m ≡ numbers-in words) (same-course : c ≡ course-in words) where

@@ -1,7 +1,8 @@
 -- `exports::jirvaldo_core_tick` meets its contract: what the in-place core promises, said of the memory.
 -- Assumes nothing.
 use borrow.Author.Needs.{needs}
-use Rattle.exports.proofs.Calling.{held-numbers, called}
+use Rattle.memory.proofs.Reading.{held-numbers}
+use Rattle.exports.proofs.Calling.{called}
 use Rattle.exports.proofs.jirvaldo_core_tick.Statement.{statement}
 use Rattle.exports.proofs.jirvaldo_core_tick.Tie as tie
 

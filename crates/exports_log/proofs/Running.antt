@@ -11,8 +11,8 @@ use Rattle.engine.specs.View.{state-view}
 use Rattle.engine.specs.Reached.{Reached}
 use Rattle.log.specs.declared.Ran.{Ran}
 use Rattle.log.specs.Running.{log-answer-of, Runs}
-use Rattle.exports.specs.Memory.{numbers-in, course-in, state-in}
-use Rattle.exports.specs.Promises.{RunsLog}
+use Rattle.memory.specs.Held.{numbers-in, course-in, state-in}
+use Rattle.exports_log.specs.Promise.{RunsLog}
 
 module _ {log first second pending next ends pending′ next′ ends′ : List ℕ} (words words′ : List ℕ) {m : Numbers} {c : Course} {ran : Ran} {r : ℕ}
     (same-numbers : m ≡ numbers-in words) (same-course : c ≡ course-in words) (runs : Runs log first second pending next ends m c pending′ next′ ends′ ran)

@@ -1,10 +1,10 @@
--- `exports::jirvaldo_core_run_log` meets its contract: what the run in place promises, said of the memory.
+-- `exports_log::jirvaldo_core_run_log` meets its contract: what the run in place promises, said of the memory.
 -- Assumes nothing.
 use borrow.Author.Needs.{needs}
-use Rattle.exports.proofs.Calling.{held-numbers}
-use Rattle.exports.proofs.Running.{ran-log}
-use Rattle.exports.proofs.jirvaldo_core_run_log.Statement.{statement}
-use Rattle.exports.proofs.jirvaldo_core_run_log.Tie as tie
+use Rattle.memory.proofs.Reading.{held-numbers}
+use Rattle.exports_log.proofs.Running.{ran-log}
+use Rattle.exports_log.proofs.jirvaldo_core_run_log.Statement.{statement}
+use Rattle.exports_log.proofs.jirvaldo_core_run_log.Tie as tie
 
 numbers-in-requires : tie.Need-numbers-in-requires
 numbers-in-requires c κs = search needs

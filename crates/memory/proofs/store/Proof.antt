@@ -1,10 +1,10 @@
--- `exports::store` meets its contract: each number is read back from its word, since it fits its type.
+-- `memory::store` meets its contract: each number is read back from its word, since it fits its type.
 -- Assumes nothing.
 use native.Mathlib.Omega.{arith}
 use borrow.Author.Needs.{needs}
-use Rattle.exports.proofs.Words.{NumbersFit, CourseFits, numbers-back, course-back}
-use Rattle.exports.proofs.store.Statement.{statement}
-use Rattle.exports.proofs.store.Tie as tie
+use Rattle.memory.proofs.Words.{NumbersFit, CourseFits, numbers-back, course-back}
+use Rattle.memory.proofs.store.Statement.{statement}
+use Rattle.memory.proofs.store.Tie as tie
 
 numbers-fit : (s : tie.Start) → NumbersFit (s .args .m)
 numbers-fit s = omega (arith, s .good .1 .0)

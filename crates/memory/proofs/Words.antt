@@ -9,7 +9,7 @@ use lib.Dec.{eqb}
 use mir.Val.{boolByte}
 use Rattle.deque.specs.declared.Numbers.{Numbers}
 use Rattle.engine.specs.declared.Course.{Course}
-use Rattle.exports.specs.Memory.{numbers-in, course-in}
+use Rattle.memory.specs.Held.{numbers-in, course-in}
 
 -- the words of a job's numbers
 abbrev pub words-of : Numbers → Course → List ℕ
