@@ -32,44 +32,49 @@ module _ (words : List ℕ) {m : Numbers} {c : Course} (same-numbers : m ≡ num
             numbered ∙ of .right plan calls first second pending next ends (rw (same-numbers, same-course) h) ∙ rw (same-numbers, same-course);
       }
 
-  pub counters-shown : {refusals : ℕ} {k : Counters} {numbers : List ℕ} → CountersOf m c refusals k → numbers ≡ numbers-of k →
-      ShowsCounters words refusals numbers
-  counters-shown of same =
+  pub counters-shown : {refusals : ℕ} {k : Counters} → CountersOf m c refusals k → ShowsCounters words refusals (numbers-of k)
+  counters-shown of =
       record {
         right = λ plan calls first second pending next ends h.
-            same ∙ of .right plan calls first second pending next ends (rw (same-numbers, same-course) h) ∙ rw (same-numbers, same-course);
+            of .right plan calls first second pending next ends (rw (same-numbers, same-course) h) ∙ rw (same-numbers, same-course);
       }
 
-  -- what looking for the status's line found
-  pub wording-shown : {shown : Status} {number : ℕ} (sheet : List ℕ) (found : Found) → StatusOf m c shown → number ≡ status-number shown →
-      found-answer found ≡ label-answer sheet number → found-stretch found ≡ label sheet number →
-      ShowsWording words sheet (found-stretch found .start) (found-stretch found .size) (answer-number (found-answer found))
-  wording-shown {number = number} sheet found of numbered answered stretch =
-      record {
-        right = λ plan calls first second pending next ends h.
-            let same = status-shown of numbered .right plan calls first second pending next ends h in (
-              ap answer-number answered ∙ ap (λ (s : ℕ). answer-number (label-answer sheet s)) same,
-              ap (λ (s : Stretch). s .start) stretch ∙ ap (λ (s : ℕ). label sheet s .start) same,
-              ap (λ (s : Stretch). s .size) stretch ∙ ap (λ (s : ℕ). label sheet s .size) same,
-            );
-      }
+-- what looking for the status's line found
+pub wording-shown : (words sheet : List ℕ) (number : ℕ) (found : Found) → ShowsStatus words number → found-answer found ≡ label-answer sheet number →
+    found-stretch found ≡ label sheet number →
+    ShowsWording words sheet (found-stretch found .start) (found-stretch found .size) (answer-number (found-answer found))
+wording-shown words sheet number found shown answered stretch =
+    record {
+      right = λ plan calls first second pending next ends h.
+          let same = shown .right plan calls first second pending next ends h in (
+            ap answer-number answered ∙ ap (λ (s : ℕ). answer-number (label-answer sheet s)) same,
+            ap (λ (s : Stretch). s .start) stretch ∙ ap (λ (s : ℕ). label sheet s .start) same,
+            ap (λ (s : Stretch). s .size) stretch ∙ ap (λ (s : ℕ). label sheet s .size) same,
+          );
+    }
+
+module _ (words : List ℕ) (refusals : ℕ) (k : Counters) (shown : ShowsCounters words refusals (numbers-of k)) where
+  pub numbers-shown : {numbers : List ℕ} → numbers ≡ numbers-of k → ShowsCounters words refusals numbers
+  numbers-shown same =
+      record { right = λ plan calls first second pending next ends h. same ∙ shown .right plan calls first second pending next ends h }
 
   -- the size of the line of ten numbers that are a job's
-  same-size : (k : Counters) (buffer : List ℕ) (refusals : ℕ) (plan : Plan) (s : State) → numbers-of k ≡ counters plan s refusals →
+  same-size : (buffer : List ℕ) (plan : Plan) (s : State) → numbers-of k ≡ counters plan s refusals →
       by-answer (counters-answer buffer) (length (spaced (numbers-of k))) 0 ≡ by-answer (counters-answer buffer) (length (counters-line plan s refusals)) 0
   unfolding counters-line
-  same-size k buffer refusals plan s e = ap (λ (ns : List ℕ). by-answer (counters-answer buffer) (length (spaced ns)) 0) e
+  same-size buffer plan s e = ap (λ (ns : List ℕ). by-answer (counters-answer buffer) (length (spaced ns)) 0) e
 
   -- what writing the line answered
-  pub line-shown : {refusals : ℕ} (k : Counters) (buffer buffer′ : List ℕ) (answer : LineAnswer) → CountersOf m c refusals k →
-      line-answer answer ≡ counters-answer buffer →
+  pub line-shown : (buffer buffer′ : List ℕ) (answer : LineAnswer) → line-answer answer ≡ counters-answer buffer →
       line-length answer ≡ by-answer (counters-answer buffer) (length (spaced (numbers-of k))) 0 →
       buffer′ ≡ by-answer (counters-answer buffer) (put-at-start (spaced (numbers-of k)) buffer) buffer →
       ShowsLine words refusals buffer buffer′ (line-length answer) (answer-number (line-answer answer))
-  line-shown {refusals} k buffer buffer′ answer of answered sized written =
+  line-shown buffer buffer′ answer answered sized written =
       record {
         answered = ap answer-number answered;
         right = λ plan calls first second pending next ends h.
-            let same = counters-shown of refl .right plan calls first second pending next ends h in
-            (sized ∙ same-size k buffer refusals plan (state-in pending next ends words) same, written ∙ model-buffer plan (state-in pending next ends words) refusals (numbers-of k) buffer same);
+            let same = shown .right plan calls first second pending next ends h in (
+              sized ∙ same-size buffer plan (state-in pending next ends words) same,
+              written ∙ model-buffer plan (state-in pending next ends words) refusals (numbers-of k) buffer same,
+            );
       }

@@ -2,9 +2,11 @@
 // `words`. Each function answers with document 01's number of the refusal, or 0.
 ghost use mathlib.Core.Path.{_≡_};
 ghost use Rattle.model.specs.Machine.{ticks};
+ghost use Rattle.counters.specs.Line.{numbers-of};
 ghost use Rattle.memory.specs.Held.{Held, HeldWith, HeldWords};
 ghost use Rattle.exports.specs.Steps.{least-of-65, Settled};
 ghost use Rattle.exports.specs.Promises.{Accepts, Calls, Grants, ShowsStatus, ShowsCounters, ShowsLine, ShowsWording};
+use counters::Counters;
 use counters::LineAnswer;
 use engine::CallAnswer;
 use engine::Moved;
@@ -103,17 +105,35 @@ pub extern "C" fn jirvaldo_core_tick(
     settle(words, moved)
 }
 
-// The status of the job.
-#[no_mangle]
-pub extern "C" fn jirvaldo_core_status(words: &[u64; 18]) -> u8
-    requires { ⌜ HeldWords (now words) ⌝ }
+// The status that the words show.
+fn status_in(words: &[u64; 18]) -> u8
     ensures { λ r. ⌜ ShowsStatus (now (words .entry)) r ⌝ }
 {
     let shown = job::status_of(memory::numbers_in(words), memory::course_in(words));
     status::number_of(shown)
 }
 
-// Where the wording of the job's status starts in the sheet, and how many bytes it has.
+// The ten numbers of the counters line that the words show.
+fn counters_in(words: &[u64; 18], refusals: u64) -> Counters
+    ensures { λ r. ⌜ ShowsCounters (now (words .entry)) refusals (numbers-of r) ⌝ }
+{
+    report::counters_of(
+        memory::numbers_in(words),
+        memory::course_in(words),
+        refusals,
+    )
+}
+
+// The status of the job.
+#[no_mangle]
+pub extern "C" fn jirvaldo_core_status(words: &[u64; 18]) -> u8
+    requires { ⌜ HeldWords (now words) ⌝ }
+    ensures { λ r. ⌜ ShowsStatus (now (words .entry)) r ⌝ }
+{
+    status_in(words)
+}
+
+// Where the wording of the job's status starts in the sheet, and how many bytes it has. Refused (19), both are 0.
 #[no_mangle]
 pub extern "C" fn jirvaldo_core_wording(
     words: &[u64; 18],
@@ -124,8 +144,7 @@ pub extern "C" fn jirvaldo_core_wording(
     requires { ⌜ HeldWords (now words) ⌝ }
     ensures { λ r. ⌜ ShowsWording (now (words .entry)) (now (sheet .entry)) (now (start .exit)) (now (size .exit)) r ⌝ }
 {
-    let shown = job::status_of(memory::numbers_in(words), memory::course_in(words));
-    let found = label::find(sheet, status::number_of(shown));
+    let found = label::find(sheet, status_in(words));
     let Found::At(from, count) = found else {
         *start = 0;
         *size = 0;
@@ -142,15 +161,11 @@ pub extern "C" fn jirvaldo_core_counters(words: &[u64; 18], refusals: u64, numbe
     requires { ⌜ HeldWords (now words) ⌝ }
     ensures { λ _. ⌜ ShowsCounters (now (words .entry)) refusals (now (numbers .exit)) ⌝ }
 {
-    let shown = report::counters_of(
-        memory::numbers_in(words),
-        memory::course_in(words),
-        refusals,
-    );
-    *numbers = counters::numbers(shown);
+    *numbers = counters::numbers(counters_in(words, refusals));
 }
 
-// The job's counters line at the start of a buffer of 128 bytes or more, and its size behind `size`. A smaller buffer stays as it came.
+// The job's counters line at the start of a buffer of 128 bytes or more, and its size behind `size`. Refused (20), the buffer stays as it came,
+// and the size is 0.
 #[no_mangle]
 pub extern "C" fn jirvaldo_core_line(
     words: &[u64; 18],
@@ -161,16 +176,11 @@ pub extern "C" fn jirvaldo_core_line(
     requires { ⌜ HeldWords (now words) ⌝ }
     ensures { λ r. ⌜ ShowsLine (now (words .entry)) refusals (now (buffer .entry)) (now (buffer .exit)) (now (size .exit)) r ⌝ }
 {
-    let shown = report::counters_of(
-        memory::numbers_in(words),
-        memory::course_in(words),
-        refusals,
-    );
-    let answer = counters::write_line(shown, buffer);
-    let LineAnswer::Written(count) = answer else {
+    let answer = counters::write_line(counters_in(words, refusals), buffer);
+    let LineAnswer::Written(length) = answer else {
         *size = 0;
         return 20;
     };
-    *size = count;
+    *size = length;
     0
 }

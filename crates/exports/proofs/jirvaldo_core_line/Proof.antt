@@ -1,4 +1,4 @@
--- `exports::jirvaldo_core_line` meets its contract: what writing the line of the record's numbers promises, said of the memory.
+-- `exports::jirvaldo_core_line` meets its contract: what writing the line of the ten numbers promises, said of the memory.
 -- Assumes nothing.
 use mathlib.Core.Path.{sym, ap, _∙_}
 use borrow.Author.Needs.{needs}
@@ -8,14 +8,8 @@ use Rattle.exports.proofs.Showing.{line-shown}
 use Rattle.exports.proofs.jirvaldo_core_line.Statement.{statement}
 use Rattle.exports.proofs.jirvaldo_core_line.Tie as tie
 
-numbers-in-requires : tie.Need-numbers-in-requires
-numbers-in-requires c κs = search needs
-
-course-in-requires : tie.Need-course-in-requires
-course-in-requires c κs = search needs
-
-counters-of-requires : tie.Need-counters-of-requires
-counters-of-requires c κs = search needs
+counters-in-requires : tie.Need-counters-in-requires
+counters-in-requires c κs = search needs
 
 write-line-requires : tie.Need-write-line-requires
 write-line-requires c κs = search needs
@@ -32,12 +26,9 @@ same-length c = search needs
 returns : tie.Need-returns
 returns c =
     let wrote = c .before .before .before .before in
-    let read = wrote .before .before .before in
     let told = c .enum-told .given .1 in
-    line-shown _ (read .before .numbers-in .ensures) (read .course-in .ensures) _ _ _ TooSmall (wrote .before .before .counters-of .ensures)
-    (sym (ap line-answer told) ∙ wrote .write-line .ensures .0)
-    (sym (ap line-length told) ∙ wrote .write-line .ensures .1 .0)
-    (wrote .write-line .ensures .1 .1)
+    line-shown _ _ (wrote .before .before .counters-in .result) (wrote .before .before .counters-in .ensures) _ _ TooSmall (sym (ap line-answer told) ∙ wrote .write-line .ensures .0)
+    (sym (ap line-length told) ∙ wrote .write-line .ensures .1 .0) (wrote .write-line .ensures .1 .1)
 
 same-length-2 : tie.Need-same-length-2
 same-length-2 c = search needs
@@ -45,20 +36,15 @@ same-length-2 c = search needs
 returns-2 : tie.Need-returns-2
 returns-2 c =
     let wrote = c .before .before .before .before .before in
-    let read = wrote .before .before .before in
     let told = c .before .answer .given .1 in
-    line-shown _ (read .before .numbers-in .ensures) (read .course-in .ensures) _ _ _ (Written _) (wrote .before .before .counters-of .ensures)
-    (sym (ap line-answer told) ∙ wrote .write-line .ensures .0)
-    (sym (ap line-length told) ∙ wrote .write-line .ensures .1 .0)
-    (wrote .write-line .ensures .1 .1)
+    line-shown _ _ (wrote .before .before .counters-in .result) (wrote .before .before .counters-in .ensures) _ _ (Written _) (sym (ap line-answer told) ∙ wrote .write-line .ensures .0)
+    (sym (ap line-length told) ∙ wrote .write-line .ensures .1 .0) (wrote .write-line .ensures .1 .1)
 
 pub jirvaldo-core-line-spec : {M : Type 1} → statement M
 jirvaldo-core-line-spec =
     tie.close
     (tie.spec
-    numbers-in-requires
-    course-in-requires
-    counters-of-requires
+    counters-in-requires
     write-line-requires
     enum-known-answer
     enum-told

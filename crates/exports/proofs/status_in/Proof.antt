@@ -1,9 +1,9 @@
--- `exports::jirvaldo_core_status` meets its contract: the status of the numbers is that of the memory.
+-- `exports::status_in` meets its contract: the status of the numbers is that of the memory.
 -- Assumes nothing.
 use borrow.Author.Needs.{needs}
 use Rattle.exports.proofs.Showing.{status-shown}
-use Rattle.exports.proofs.jirvaldo_core_status.Statement.{statement}
-use Rattle.exports.proofs.jirvaldo_core_status.Tie as tie
+use Rattle.exports.proofs.status_in.Statement.{statement}
+use Rattle.exports.proofs.status_in.Tie as tie
 
 numbers-in-requires : tie.Need-numbers-in-requires
 numbers-in-requires c κs = search needs
@@ -22,7 +22,7 @@ returns c =
     let read = c .before .before in
     status-shown _ (read .before .numbers-in .ensures) (read .course-in .ensures) (c .before .status-of .ensures) (c .number-of .ensures)
 
-pub jirvaldo-core-status-spec : {M : Type 1} → statement M
-jirvaldo-core-status-spec =
+pub status-in-spec : {M : Type 1} → statement M
+status-in-spec =
     tie.close
     (tie.spec numbers-in-requires course-in-requires status-of-requires number-of-requires returns)
