@@ -1,14 +1,13 @@
 -- The case at a place of a set is the first of the stored cases from that place on.
 -- Assumes nothing.
-use mathlib.Core.Path.{_≡_, refl, sym, ap, _∙_}
+use mathlib.Core.Path.{_≡_, refl, ap, _∙_}
 use mathlib.Core.Bool.{Bool, true, false, cond}
 use mathlib.Core.List.{List, [], _∷_}
 use Prim.Native.Nat.{ℕ, zero, suc, _+_, _*_, _-_, _≤_, _<_}
-use native.Mathlib.Numerals.{add-one}
 use native.Mathlib.Omega.{arith}
 use lib.Dec.{ltb, leb}
 use lib.ListN.{length, getD, take, drop, length-drop, drop-of-length-le}
-use lib.Seq.{drop-cons, drop-drop, getD-drop}
+use lib.Seq.{drop-drop, getD-drop}
 use borrow.Author.Tests.{ltb-true, ltb-false, leb-true, lt-ltb, le-ltb, le-leb, lt-leb}
 use Rattle.model.specs.Plan.{number}
 use Rattle.vectors.specs.declared.Placed.{Placed}
@@ -21,7 +20,8 @@ abbrev cut-off : Stored
 cut-off = record { cases = []; whole = false }
 
 -- any two bounds that the length does not exceed
-same-stored : (most other : ℕ) (bytes : List ℕ) → length bytes ≤ most → length bytes ≤ other → stored-up-to most bytes ≡ stored-up-to other bytes
+same-stored : (most other : ℕ) (bytes : List ℕ) → length bytes ≤ most → length bytes ≤ other →
+    stored-up-to most bytes ≡ stored-up-to other bytes
 unfolding stored-up-to
 same-stored zero zero bytes h k = refl
 same-stored zero (suc other) [] h k = refl
@@ -78,7 +78,8 @@ module _ (set : List ℕ) (at : ℕ) where
   at-cut h k = rw (lt-ltb at (length set) h, lt-leb (case-size (drop at set)) (length set - at) k)
 
   pub at-whole : at < length set → case-size (drop at set) ≤ length set - at →
-      (input expected : ℕ) → input ≡ input-size (drop at set) → expected ≡ expected-size (drop at set) → Whole input expected ≡ placed-of set at
+      (input expected : ℕ) → input ≡ input-size (drop at set) → expected ≡ expected-size (drop at set) →
+      Whole input expected ≡ placed-of set at
   unfolding placed-of
   at-whole h k input expected e f = rw (lt-ltb at (length set) h, le-leb (case-size (drop at set)) (length set - at) k, e, f)
 
@@ -96,21 +97,21 @@ Says set at Cut = stored (drop at set) ≡ cut-off
 Says set at End = stored (drop at set) ≡ record { cases = []; whole = true }
 
 module _ (set : List ℕ) (at : ℕ) where
-  says-by : (fits : Bool) → at < length set → leb (case-size (drop at set)) (length set - at) ≡ fits →
-      Says set at (cond fits (Whole (input-size (drop at set)) (expected-size (drop at set))) Cut)
+  abbrev rest : List ℕ
+  rest = drop at set
+
+  says-by : (fits : Bool) → at < length set → leb (case-size rest) (length set - at) ≡ fits →
+      Says set at (cond fits (Whole (input-size rest) (expected-size rest)) Cut)
   says-by true h e =
-      record {
-        input-is = refl;
-        expected-is = refl;
-        inside = omega (arith, leb-true (case-size (drop at set)) (length set - at) e);
-      }
+      record { input-is = refl; expected-is = refl; inside = omega (arith, leb-true (case-size rest) (length set - at) e) }
   says-by false h e =
-      stored-first (drop at set) (omega (arith, length-drop at set))
-      ∙ ap (λ (fits : Bool). cond fits (case-then (first-case (drop at set)) (stored (drop (case-size (drop at set)) (drop at set)))) cut-off)
-      (ap (leb (case-size (drop at set))) (length-drop at set) ∙ e)
+      stored-first rest (omega (arith, length-drop at set))
+      ∙ ap (λ (fits : Bool). cond fits (case-then (first-case rest) (stored (drop (case-size rest) rest))) cut-off)
+      (ap (leb (case-size rest)) (length-drop at set) ∙ e)
 
   says-there : (more : Bool) → ltb at (length set) ≡ more →
-      Says set at (cond more (cond (leb (case-size (drop at set)) (length set - at)) (Whole (input-size (drop at set)) (expected-size (drop at set))) Cut) End)
+      Says set at
+      (cond more (cond (leb (case-size rest) (length set - at)) (Whole (input-size rest) (expected-size rest)) Cut) End)
   unfolding stored stored-up-to
   says-there true e = says-by _ (ltb-true at (length set) e) refl
   says-there false e = rw (drop-of-length-le set (ltb-false at (length set) e))

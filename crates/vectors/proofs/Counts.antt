@@ -3,7 +3,7 @@
 use mathlib.Core.Path.{_≡_, refl, sym, ap, _∙_}
 use mathlib.Core.Bool.{Bool, true, false, cond, _&&_}
 use mathlib.Core.List.{List, [], _∷_}
-use Prim.Native.Nat.{ℕ, _+_, _-_, _≤_, _<_}
+use Prim.Native.Nat.{ℕ, _+_, _-_, _≤_}
 use native.Mathlib.Omega.{arith}
 use lib.Dec.{eqb}
 use lib.ListN.{length, take, drop}
@@ -13,7 +13,6 @@ use Rattle.model.specs.Program.{program}
 use Rattle.counters.specs.Put.{put, room, put-if-room, next-if-room}
 use Rattle.counters.proofs.Put.{length-put}
 use Rattle.vectors.specs.Stored.{Case, Stored, case-then, stored, same-bytes, as-said, tally-of}
-use Rattle.vectors.specs.declared.Tally.{Tally}
 use Rattle.vectors.proofs.Cases.{CaseHere, stored-here}
 
 -- ---- the comparison
@@ -76,7 +75,14 @@ module _ (set : List ℕ) where
     pub inside : at ≤ length set
 
   pub starts : SoFar 0 0 0
-  starts = record { counted = omega arith; said-so-far = omega arith; whole-left = refl; few = (omega arith, omega arith); inside = omega arith }
+  starts =
+      record {
+        counted = omega arith;
+        said-so-far = omega arith;
+        whole-left = refl;
+        few = (omega arith, omega arith);
+        inside = omega arith;
+      }
 
   module _ (cases same at : ℕ) (so-far : SoFar cases same at) where
     -- one case more

@@ -2,7 +2,6 @@
 // counts the cases of the set and those for which the program prints what is stored. `specs/Stored.antt` has the set's form.
 ghost use mathlib.Core.Path.{_≡_};
 ghost use mathlib.Core.Bool.{cond};
-ghost use Prim.Native.Nat.{_≤_};
 ghost use lib.ListN.{length};
 ghost use Rattle.model.specs.Program.{program};
 ghost use Rattle.vectors.specs.Stored.{same-bytes, placed-of, stored, tally-of, verdict-of};
@@ -77,7 +76,7 @@ fn one_if(same: bool) -> u64
     if same {
         return 1;
     }
-    0
+    return 0;
 }
 
 // Every case of a set, one after the other.
@@ -173,7 +172,10 @@ fn main() {
     let mut input = room();
     let size = io::read_full(STDIN_FILENO, &mut input);
     if size > 524288 {
-        io::write_all(STDOUT_FILENO, b"THE SET IS TOO LONG: more than 524288 bytes\n");
+        io::write_all(
+            STDOUT_FILENO,
+            b"THE SET IS TOO LONG: more than 524288 bytes\n",
+        );
         return;
     }
     let tally = run(&input[..size]);

@@ -27,8 +27,9 @@ input-of c = c .before .before .before .before .wide .result * 65536 + c .before
 
 input-is : (c : tie.After-wide3) → input-of c ≡ input-size (drop (at-of c) (set-of c))
 input-is c =
+    let second = c .before .before in
     omega
-    (arith, c .wide3 .ensures, c .before .before .wide2 .ensures, c .before .before .before .before .wide .ensures, input-read (set-of c) (at-of c))
+    (arith, c .wide3 .ensures, second .wide2 .ensures, second .before .before .wide .ensures, input-read (set-of c) (at-of c))
 
 expected-is : (c : tie.After-wide4) →
     let read = c .before .before .before in

@@ -17,15 +17,15 @@ returns-3 : tie.Need-returns-3
 returns-3 c =
     let some = c .before .before in
     let tally = some .before .before .before .before .args .tally in
-    rw
-    (not-false (tally .whole) (some .before .before .if1 .left), ne-eqb (tally .cases) 0 (some .if2 .left), eq-eqb (tally .same) (tally .cases) (c .if3 .taken))
+    let whole = not-false (tally .whole) (some .before .before .if1 .left) in
+    rw (whole, ne-eqb (tally .cases) 0 (some .if2 .left), eq-eqb (tally .same) (tally .cases) (c .if3 .taken))
 
 returns-4 : tie.Need-returns-4
 returns-4 c =
     let some = c .before .before in
     let tally = some .before .before .before .before .args .tally in
-    rw
-    (not-false (tally .whole) (some .before .before .if1 .left), ne-eqb (tally .cases) 0 (some .if2 .left), ne-eqb (tally .same) (tally .cases) (c .if3 .left))
+    let whole = not-false (tally .whole) (some .before .before .if1 .left) in
+    rw (whole, ne-eqb (tally .cases) 0 (some .if2 .left), ne-eqb (tally .same) (tally .cases) (c .if3 .left))
 
 pub judge-spec : {M : Type 1} → statement M
 judge-spec = tie.close (tie.spec returns returns-2 returns-3 returns-4)

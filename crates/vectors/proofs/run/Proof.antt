@@ -1,6 +1,6 @@
 -- `vectors::run` meets its contract. The loop's invariant: the cases before the place are counted. The measure is what is left of the set.
 -- Assumes nothing.
-use mathlib.Core.Path.{refl, sym, ap, _∙_}
+use mathlib.Core.Path.{refl, sym, _∙_}
 use mathlib.Core.Bool.{true, false}
 use mathlib.Core.List.{List}
 use Prim.Native.Nat.{ℕ, _+_, _-_, _^_, _<_}

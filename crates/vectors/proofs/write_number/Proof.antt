@@ -10,7 +10,9 @@ use Rattle.vectors.proofs.write_number.Statement.{statement}
 use Rattle.vectors.proofs.write_number.Tie as tie
 
 within : (c : tie.After-put-decimal) → c .put-decimal .result ≤ length (c .put-decimal .last .0)
-within c = digits-within (decimal (c .before .before .args .number)) (replicate 20 0) _ _ (c .put-decimal .ensures .0) (c .put-decimal .ensures .1)
+within c =
+    let called = c .put-decimal in
+    digits-within (decimal (c .before .before .args .number)) (replicate 20 0) _ _ (called .ensures .0) (called .ensures .1)
 
 slice-aggregate-put-decimal : tie.Need-slice-aggregate-put-decimal
 slice-aggregate-put-decimal c = search needs
