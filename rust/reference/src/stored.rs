@@ -2,6 +2,7 @@
 //! runs them one after the other. A case is the input's size in three bytes,
 //! the input, the output's size in one byte, and the output.
 
+use crate::generator::edges::edge_plans;
 use crate::generator::graph::{graph, Shape, MOST_TASKS};
 use crate::generator::logs::{guided_log, Grants, Style, Writer, CHOICES, ENDINGS, GRANTS};
 use crate::generator::plans::{wide_draft, Draft};
@@ -32,7 +33,7 @@ const SHAPES: [Shape; 5] = [
 pub fn stored_set(seed: u64) -> Vec<u8> {
     let mut random = Random::new(seed);
     let mut set = Vec::new();
-    let made = [bare(), shaped(&mut random), wide(&mut random)].concat();
+    let made = [bare(), edges(), shaped(&mut random), wide(&mut random)].concat();
     for input in made {
         store(&mut set, &input);
     }
@@ -75,6 +76,13 @@ fn bare() -> Vec<Vec<u8>> {
     let short = [vec![], vec![0], vec![0, 0]];
     let broken = logs.iter().map(|log| input(&plan, log));
     short.into_iter().chain(broken).collect()
+}
+
+/// The plans at the edge of each question, each with example 1's log.
+fn edges() -> Vec<Vec<u8>> {
+    let log = [1, 0x81, 0, 0x81, 0, 2, 0x82, 0, 0, 0x82, 0, 0];
+    let plans = edge_plans().into_iter();
+    plans.map(|plan| input(&plan, &log)).collect()
 }
 
 /// Every shape with every way to grant, and every shape with the fewest and
