@@ -26,3 +26,19 @@ pub record Reached (plan : Plan) (calls : List Call) (first second pending next 
   pub its-state : state-view pending next ends m c ≡ run plan calls .state
   pub sizes : Sizes pending next ends
   pub kept : Kept (graph first second (m .tasks)) pending m
+
+-- some accepted plan and calls reach them: the only thing that a function asks of a job
+abbrev pub IsJob : List ℕ → List ℕ → List ℕ → List ℕ → List ℕ → Numbers → Course → Type 0
+IsJob first second pending next ends m c =
+    (plan : Plan) × (calls : List Call) × Reached plan calls first second pending next ends m c
+
+-- the same where only the ends and the numbers are lent
+abbrev pub IsJobWith : List ℕ → Numbers → Course → Type 0
+IsJobWith ends m c =
+    (plan : Plan)
+    × (calls : List Call)
+    × (first : List ℕ)
+    × (second : List ℕ)
+    × (pending : List ℕ)
+    × (next : List ℕ)
+    × Reached plan calls first second pending next ends m c

@@ -1,14 +1,11 @@
 // The in-place core of a job: the answer to a call and what an accepted one does, over lent arrays. Nothing is copied but a few numbers.
 ghost use mathlib.Core.Path.{_≡_};
-ghost use mathlib.Core.List.{List};
-ghost use Prim.Native.Nat.{ℕ, _<_};
+ghost use Prim.Native.Nat.{_<_};
 ghost use Rattle.model.specs.Questions.{answer-number, first-no};
-ghost use Rattle.model.specs.Plan.{Plan};
-ghost use Rattle.model.specs.Machine.{Call};
 ghost use Rattle.engine.specs.Answers.{answer-of};
 ghost use Rattle.engine.specs.Asked.{grant-asked, tick-asked, choices-below};
 ghost use Rattle.engine.specs.Courses.{granted-course, Countable, CourseTicked};
-ghost use Rattle.engine.specs.Reached.{Reached};
+ghost use Rattle.engine.specs.Reached.{IsJob, IsJobWith};
 ghost use Rattle.engine.specs.Moves.{GrantMoves, TickMoves};
 use deque::Numbers;
 
@@ -128,7 +125,7 @@ fn open_quantum(c: Course, g: u8) -> Course
 
 // "A grant of g": the answer, and the job after it. Refused, it changes nothing.
 pub fn grant(ends: &mut [u16; 256], m: Numbers, c: Course, g: u8) -> Moved
-    requires { ⌜ ((plan : Plan) × (calls : List Call) × (first : List ℕ) × (second : List ℕ) × (pending : List ℕ) × (next : List ℕ) × Reached plan calls first second pending next (now ends) m c) ⌝ }
+    requires { ⌜ IsJobWith (now ends) m c ⌝ }
     ensures { λ r. ⌜ GrantMoves g (now (ends .entry)) m c (now (ends .exit)) r ⌝ }
 {
     let answer = grant_answer(m, c, g);
@@ -185,7 +182,7 @@ pub fn tick(
     c: Course,
     choices: &[u8],
 ) -> Moved
-    requires { ⌜ ((plan : Plan) × (calls : List Call) × Reached plan calls (now first) (now second) (now pending) (now next) (now ends) m c) ⌝ }
+    requires { ⌜ IsJob (now first) (now second) (now pending) (now next) (now ends) m c ⌝ }
     ensures { λ r. ⌜ TickMoves (now (choices .entry)) (now (first .entry)) (now (second .entry)) (now (pending .entry)) (now (next .entry)) (now (ends .entry)) m c (now (pending .exit)) (now (next .exit)) (now (ends .exit)) r ⌝ }
 {
     let answer = tick_answer(m, c, choices);

@@ -16,13 +16,12 @@ use Rattle.laws.proofs.Theorems.{measured}
 use Rattle.deque.specs.declared.Numbers.{Numbers}
 use Rattle.engine.specs.declared.Course.{Course}
 use Rattle.engine.specs.declared.Moved.{Moved}
-use Rattle.engine.specs.Reached.{Reached}
+use Rattle.engine.specs.Reached.{IsJobWith}
 use Rattle.engine.specs.Moves.{GrantMoves}
 use Rattle.engine.proofs.Known.{plan-sound, known-measured}
 use Rattle.memory.specs.Held.{numbers-in, course-in, plan-in, state-in, ReachedIn, HeldWith}
 use Rattle.exports.specs.Steps.{least-of-65, Settled}
 use Rattle.exports.specs.Promises.{Calls, Grants}
-use Rattle.memory.proofs.Reading.{held-numbers}
 use Rattle.exports.proofs.Calling.{called}
 
 -- where the last question is answered no, nothing moves
@@ -87,11 +86,8 @@ module _ {plan : Plan} {calls : List Call} {first second pending next ends words
 
 -- the ends and numbers that were read are a job's
 pub grantable : {ends : List ℕ} (words : List ℕ) {m : Numbers} {c : Course} → m ≡ numbers-in words → c ≡ course-in words → HeldWith ends words →
-    (plan : Plan) × (calls : List Call) × (first : List ℕ) × (second : List ℕ) × (pending : List ℕ) × (next : List ℕ)
-    × Reached plan calls first second pending next ends m c
-grantable words same-numbers same-course held =
-    let job = held-numbers words same-numbers same-course (held .4) in
-    (job .0, job .1, held .0, held .1, held .2, held .3, job .2)
+    IsJobWith ends m c
+grantable words same-numbers same-course held = rw (same-numbers, same-course) held
 
 -- the promise for every number, from the core's for the least of it and 65
 module _ (g least : ℕ) {ends ends′ : List ℕ} (words words′ : List ℕ) {m : Numbers} {c : Course} {moved : Moved} {r : ℕ}

@@ -3,7 +3,7 @@ use mathlib.Core.List.{List}
 use Rattle.model.specs.Plan.{Plan}
 use Rattle.model.specs.Machine.{State, Call}
 use Rattle.engine.specs.View.{plan-view, state-view}
-use Rattle.engine.specs.Reached.{Reached}
+use Rattle.engine.specs.Reached.{Reached, IsJob}
 use Rattle.job.specs.declared.Job.{Job}
 
 -- the plan that the record carries
@@ -22,4 +22,4 @@ ReachedBy plan calls job =
 
 -- some plan and calls reach it: the only thing that a public function asks of a record
 abbrev pub FromCalls : Job → Type 0
-FromCalls job = (plan : Plan) × (calls : List Call) × ReachedBy plan calls job
+FromCalls job = IsJob (job .first) (job .second) (job .pending) (job .next) (job .ends) (job .numbers) (job .course)

@@ -1,13 +1,10 @@
 // The day log: lent bytes, read entry after entry, and run on a job in place. `specs/Reading.antt` says what is read, and
 // `specs/Running.antt` what a run promises.
 ghost use mathlib.Core.Path.{_≡_};
-ghost use Prim.Native.Nat.{ℕ, _+_, _^_, _<_};
-ghost use mathlib.Core.List.{List};
-ghost use Rattle.model.specs.Plan.{Plan};
-ghost use Rattle.model.specs.Machine.{Call};
+ghost use Prim.Native.Nat.{_+_, _^_, _<_};
 ghost use Rattle.model.specs.Log.{refusals-in};
 ghost use Rattle.engine.specs.Answers.{answer-of};
-ghost use Rattle.engine.specs.Reached.{Reached};
+ghost use Rattle.engine.specs.Reached.{IsJob};
 ghost use Rattle.log.specs.Reading.{entry-of};
 ghost use Rattle.log.specs.Running.{counted-at, ended-at, Runs};
 use deque::Numbers;
@@ -151,7 +148,7 @@ pub fn run(
     c: Course,
     log: &[u8],
 ) -> Ran
-    requires { ⌜ ((plan : Plan) × (calls : List Call) × Reached plan calls (now first) (now second) (now pending) (now next) (now ends) m c) ⌝ }
+    requires { ⌜ IsJob (now first) (now second) (now pending) (now next) (now ends) m c ⌝ }
     ensures { λ r. ⌜ Runs (now (log .entry)) (now (first .entry)) (now (second .entry)) (now (pending .entry)) (now (next .entry)) (now (ends .entry)) m c (now (pending .exit)) (now (next .exit)) (now (ends .exit)) r ⌝ }
 {
     let mut place = Place {

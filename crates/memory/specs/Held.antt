@@ -9,7 +9,7 @@ use Rattle.model.specs.Machine.{State, Call}
 use Rattle.deque.specs.declared.Numbers.{Numbers}
 use Rattle.engine.specs.declared.Course.{Course}
 use Rattle.engine.specs.View.{plan-view, state-view}
-use Rattle.engine.specs.Reached.{Reached}
+use Rattle.engine.specs.Reached.{Reached, IsJob, IsJobWith}
 
 -- the word at a place, and the same cut to so many bits
 abbrev pub word : List ℕ → ℕ → ℕ
@@ -60,13 +60,11 @@ ReachedIn plan calls first second pending next ends words =
 
 -- the memory holds a job: some accepted plan and calls reach it. It is all that a function asks of lent memory.
 abbrev pub Held : List ℕ → List ℕ → List ℕ → List ℕ → List ℕ → List ℕ → Type 0
-Held first second pending next ends words =
-    (plan : Plan) × (calls : List Call) × ReachedIn plan calls first second pending next ends words
+Held first second pending next ends words = IsJob first second pending next ends (numbers-in words) (course-in words)
 
--- the words, and where they are named the ends, are those of memory that holds a job
+-- the ends and the words, and the words alone, are those of memory that holds a job
 abbrev pub HeldWith : List ℕ → List ℕ → Type 0
-HeldWith ends words =
-    (first : List ℕ) × (second : List ℕ) × (pending : List ℕ) × (next : List ℕ) × Held first second pending next ends words
+HeldWith ends words = IsJobWith ends (numbers-in words) (course-in words)
 
 abbrev pub HeldWords : List ℕ → Type 0
 HeldWords words = (ends : List ℕ) × HeldWith ends words
