@@ -52,6 +52,9 @@ pub use status::Status;
 /// The most tasks that a plan may have.
 pub const MOST_TASKS: usize = 1024;
 
+/// The size of the longest plan that is accepted: no plan with more bytes is.
+pub const LONGEST_PLAN: usize = 5 + 3 * MOST_TASKS;
+
 /// The most workers that a job ever desires.
 pub const MOST_WORKERS: usize = 64;
 

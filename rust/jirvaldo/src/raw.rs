@@ -15,12 +15,12 @@ const WORDS: usize = 18;
 #[derive(Clone)]
 #[cfg_attr(test, derive(Debug, PartialEq))]
 pub(crate) struct Memory {
+    words: [u64; WORDS],
     first: [u16; MOST_TASKS],
     second: [u16; MOST_TASKS],
-    pending: [u8; MOST_TASKS],
     next: [u16; MOST_TASKS],
     ends: [u16; ENDS],
-    words: [u64; WORDS],
+    pending: [u8; MOST_TASKS],
 }
 
 extern "C" {
@@ -81,12 +81,12 @@ impl Memory {
     pub(crate) fn accept(plan: &[u8]) -> Result<Memory, u8> {
         // no job yet; it does not leave this function unless the plan is accepted
         let mut memory = Memory {
+            words: [0; WORDS],
             first: [0; MOST_TASKS],
             second: [0; MOST_TASKS],
-            pending: [0; MOST_TASKS],
             next: [0; MOST_TASKS],
             ends: [0; ENDS],
-            words: [0; WORDS],
+            pending: [0; MOST_TASKS],
         };
         match memory.replace(plan) {
             0 => Ok(memory),

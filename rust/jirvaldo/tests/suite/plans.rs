@@ -1,7 +1,7 @@
 //! Acceptance: refusals 1 to 10, and the smallest and largest plans.
 
 use jirvaldo::inspect::State;
-use jirvaldo::Refusal;
+use jirvaldo::{Refusal, LONGEST_PLAN};
 
 use super::{chain, hex, job, number, plan, plan_a, PLAN_A};
 
@@ -48,6 +48,7 @@ fn edges_of_the_fields() {
 fn the_smallest_and_the_largest_plan() {
     assert_eq!(number(&chain(1)), 0);
     assert_eq!(number(&chain(1024)), 0);
+    assert_eq!(chain(1024).len(), LONGEST_PLAN);
     let state = State::of(&job(&chain(1024)));
     assert_eq!(state.plan.successors.len(), 1024);
     assert_eq!(state.plan.successors[1022], [1023]);
@@ -64,7 +65,10 @@ fn a_refused_replacement_leaves_the_old_job() {
     let mut job = plan_a();
     assert_eq!(job.grant(1), Ok(()));
     let before = State::of(&job);
-    assert_eq!(job.replace(&chain(1024)[..3076]), Err(Refusal::WrongLength));
+    assert_eq!(
+        job.replace(&chain(1024)[..LONGEST_PLAN - 1]),
+        Err(Refusal::WrongLength)
+    );
     assert_eq!(State::of(&job), before);
     assert_eq!(job.replace(&chain(1024)), Ok(()));
     assert_eq!(job.counters(0).tasks, 1024);
