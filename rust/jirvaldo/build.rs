@@ -2,7 +2,7 @@
 //! relative), else in target/jirvaldo of this repository.
 
 use std::env;
-use std::path::PathBuf;
+use std::path::Path;
 use std::process::exit;
 
 const VARIABLE: &str = "JIRVALDO_LIB_DIR";
@@ -10,8 +10,9 @@ const ARCHIVE: &str = "libjirvaldo.a";
 
 fn main() {
     println!("cargo:rerun-if-env-changed={VARIABLE}");
-    let named = env::var_os(VARIABLE).map(PathBuf::from);
-    let directory = named.unwrap_or_else(|| PathBuf::from("../../target/jirvaldo"));
+    let named = env::var_os(VARIABLE).filter(|name| !name.is_empty());
+    let named = named.unwrap_or_else(|| "../../target/jirvaldo".into());
+    let directory = Path::new(env!("CARGO_MANIFEST_DIR")).join(named);
     let archive = directory.join(ARCHIVE);
     println!("cargo:rerun-if-changed={}", archive.display());
     match directory.canonicalize() {

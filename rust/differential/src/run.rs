@@ -39,7 +39,7 @@ fn run_case(seed: u64, case: u64, totals: &mut Totals) -> Result<(), Found> {
     })
 }
 
-/// A plan and, where it is accepted, a log, which is at times run whole first. Case 0 begins more quanta than a job may have.
+/// A plan and, where it is accepted, a log, which at times is run whole too. Case 0 begins more quanta than a job may have.
 fn try_case(random: &mut Random, case: u64, totals: &mut Totals) -> Result<(), Difference> {
     let plan = match case {
         0 => inputs::marathon_plan(random),
@@ -53,13 +53,15 @@ fn try_case(random: &mut Random, case: u64, totals: &mut Totals) -> Result<(), D
         0 => marathon_log(random, pair.reference.clone()),
         _ => inputs::log(random, &pair.reference),
     };
-    if random.chance(64) {
-        pair.clone().run_log(&log, totals)?;
-    }
+    let mut fresh = pair.clone();
     let mut walk = Walk {
         pair,
         random,
         totals,
     };
-    walk.follow(&log)
+    walk.follow(&log)?;
+    if random.chance(64) {
+        fresh.run_log(&log, totals)?;
+    }
+    Ok(())
 }

@@ -1,7 +1,7 @@
 //! What a job's memory holds, for consoles and tests: the deques, the worked tasks, the open quantum, the plan.
 //!
-//! This reads the memory in plain Rust, by the view of `crates/exports/specs/Memory.antt` and `crates/deque/specs/View.antt`, over which the
-//! library's promises are stated. It is written after these definitions and not itself proved.
+//! This reads the memory in plain Rust, by the view of `crates/exports/specs/Memory.antt` and `crates/deque/specs/View.antt`, over which
+//! the library's promises are stated. It is written after these definitions and not itself proved.
 //!
 //! ```
 //! use jirvaldo::{inspect::State, Job};
@@ -26,8 +26,8 @@ use crate::{Job, MOST_WORKERS};
 /// What `pending` holds of a worked task.
 const WORKED: u8 = 3;
 
-/// A look into a job, which copies nothing. Tasks and workers are numbered from 0; of a number past the last nothing is shown: no successors,
-/// an empty deque, not worked.
+/// A look into a job, which copies nothing. Tasks and workers are numbered from 0; of a number past the last nothing is shown: no
+/// successors, an empty deque, not worked.
 #[derive(Clone, Copy)]
 pub struct View<'a> {
     memory: &'a Memory,

@@ -205,7 +205,8 @@ impl Job {
         Ok(&sheet[start..][..size])
     }
 
-    /// Writes the counters line, with the byte 10 that ends it, at the start of the buffer, and returns its size. Bytes after the line stay.
+    /// Writes the counters line, with the byte 10 that ends it, at the start of the buffer, and returns its size. Bytes after the line
+    /// stay.
     ///
     /// # Errors
     /// [`SmallBuffer`](Refusal::SmallBuffer) (20) where the buffer has fewer than [`LINE_BUFFER`] bytes, also if the line would fit. The
