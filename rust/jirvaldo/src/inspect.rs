@@ -80,7 +80,7 @@ impl<'a> View<'a> {
 impl<'a> View<'a> {
     /// Whether a task is worked.
     pub fn is_worked(self, task: usize) -> bool {
-        self.worked().nth(task) == Some(true)
+        task < self.tasks() && self.memory.pending().get(task) == Some(&WORKED)
     }
 
     /// Of each task, in number order: it is worked.
@@ -112,12 +112,12 @@ impl<'a> View<'a> {
 
     /// The deque at a place of `ends`: its front there, its size 128 further on. What its links hold past the size is not read.
     fn deque_at(self, place: Option<usize>) -> impl Iterator<Item = u16> + 'a {
+        let at = |list: &[u16], place: usize| list.get(place).copied().unwrap_or(0);
         let (next, ends) = (self.memory.next(), self.memory.ends());
-        let end = move |at: usize| ends.get(at).copied().unwrap_or(0);
-        let size = place.map_or(0, |place| usize::from(end(place + 2 * MOST_WORKERS)));
-        let front = place.map(end);
-        let links = std::iter::successors(front, move |&task| next.get(usize::from(task)).copied());
-        links.take(size)
+        let size = place.map_or(0, |place| at(ends, place + 2 * MOST_WORKERS));
+        let front = place.map(|place| at(ends, place));
+        let links = std::iter::successors(front, move |&task| Some(at(next, task.into())));
+        links.take(size.into())
     }
 
     /// The desire: how many workers the job wants next.
