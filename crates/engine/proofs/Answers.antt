@@ -2,7 +2,8 @@
 -- `Accepted` is a refusal.
 -- Assumes nothing.
 use mathlib.Core.Path.{_≡_, refl}
-use mathlib.Core.Bool.{true, false}
+use lib.Dec.{ltb}
+use mathlib.Core.Bool.{Bool, true, false, _&&_}
 use mathlib.Core.List.{List, [], _∷_}
 use Prim.Native.Nat.{ℕ, _+_, _≤_, _<_}
 use native.Mathlib.Numerals.{add-one}
@@ -72,20 +73,23 @@ module _ (m : Numbers) (c : Course) (choices : List ℕ) where
   unfolding tick-asked first-no
   tick-yes a b d e = rw (ne-eqb (m .done) (m .tasks) a, b, eq-eqb (length choices) (m .workers) d, e)
 
--- ---- 17, choice by choice: what is asked of all is asked of those from i on, where those before i passed
+-- ---- 17, choice by choice
 
 module _ (choices : List ℕ) (workers i : ℕ) where
-  pub choice-passes : i < length choices → getD choices i 0 < workers → choices-below (drop i choices) workers ≡ choices-below (drop (i + 1) choices) workers
+  -- one more of the choices that are left is asked
+  pub choice-asked : (below : Bool) → i < length choices →
+      below && choices-below (drop i choices) workers ≡ (below && ltb (getD choices i 0) workers) && choices-below (drop (i + 1) choices) workers
   unfolding every
-  choice-passes here below = rw (add-one, drop-cons choices i 0 here, lt-ltb (getD choices i 0) workers below)
+  choice-asked below here = rw (add-one, drop-cons choices i 0 here) (in-turn below (ltb (getD choices i 0) workers) _)
+    where
+      in-turn : (a b c : Bool) → a && (b && c) ≡ (a && b) && c
+      in-turn true b c = refl
+      in-turn false b c = refl
 
-  pub choice-fails : i < length choices → workers ≤ getD choices i 0 → choices-below (drop i choices) workers ≡ false
+  pub choices-passed : (below : Bool) → i ≡ length choices → below && choices-below (drop i choices) workers ≡ below
   unfolding every
-  choice-fails here above = rw (drop-cons choices i 0 here, le-ltb (getD choices i 0) workers above)
-
-  pub choices-passed : i ≡ length choices → choices-below (drop i choices) workers ≡ true
-  unfolding every
-  choices-passed end = rw (end, drop-length choices)
+  choices-passed true end = rw (end, drop-length choices)
+  choices-passed false end = refl
 
 -- ---- refusals
 

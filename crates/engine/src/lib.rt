@@ -77,18 +77,17 @@ fn grant_answer(m: Numbers, c: Course, g: u8) -> CallAnswer
     CallAnswer::Accepted
 }
 
-// Question 17, of every choice.
+// Question 17, of every choice; with no way out of the loop but its end, so that many are asked at once.
 fn all_below(choices: &[u8], workers: u8) -> bool
     ensures { λ r. ⌜ r ≡ choices-below (now (choices .entry)) workers ⌝ }
 {
+    let mut below = true;
     let mut i = 0;
     while i < choices.len() {
-        if choices[i] >= workers {
-            return false;
-        }
+        below = below & (choices[i] < workers);
         i += 1;
     }
-    true
+    below
 }
 
 // Questions 11 and 15 to 17.

@@ -1,5 +1,3 @@
--- The static library. Memory: the job that lent memory holds. Promises: what the exported functions promise of it. Steps: what the inner ones
--- do.
-pub mod Memory
+-- The static library. Promises: what the exported functions promise of a job in lent memory. Steps: what the inner ones do.
 pub mod Steps
 pub mod Promises

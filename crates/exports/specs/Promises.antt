@@ -7,10 +7,9 @@ use lib.ListN.{length}
 use Rattle.model.specs.Questions.{accepted, refused, answer-number, by-answer}
 use Rattle.model.specs.Plan.{Plan, plan-of, plan-answer}
 use Rattle.model.specs.Machine.{Call, grants, call-answer, step, status}
-use Rattle.model.specs.Log.{entries, run-log, log-answer}
 use Rattle.model.specs.Label.{label, label-answer}
 use Rattle.model.specs.Counters.{counters, counters-line, counters-answer, buffer-after}
-use Rattle.exports.specs.Memory.{plan-in, state-in, ReachedIn}
+use Rattle.memory.specs.Held.{plan-in, state-in, ReachedIn}
 
 -- acceptance of a plan
 pub record Accepts (bytes first second pending next ends words first′ second′ pending′ next′ ends′ words′ : List ℕ) (r : ℕ) : Type 0 where
@@ -37,15 +36,6 @@ pub record Grants (g : ℕ) (ends words ends′ words′ : List ℕ) (r : ℕ) :
   pub called : (plan : Plan) (calls : List Call) (first second pending next : List ℕ) →
       ReachedIn plan calls first second pending next ends words →
       Calls (grants g) first second pending next ends words pending next ends′ words′ r
-
--- a log, with the count of refused calls that is handed back beside the number
-pub record RunsLog (log first second pending next ends words pending′ next′ ends′ words′ : List ℕ) (refusals r : ℕ) : Type 0 where
-  pub answered : r ≡ answer-number (log-answer log)
-  pub state-after : state-in pending′ next′ ends′ words′ ≡ run-log (plan-in first second words) log (state-in pending next ends words) .state
-  pub refusals-counted : refusals ≡ run-log (plan-in first second words) log (state-in pending next ends words) .refusals
-  -- whatever plan and calls reached the job, with the calls of the log's whole entries they reach what the memory holds then
-  pub reached : (plan : Plan) (calls : List Call) → ReachedIn plan calls first second pending next ends words →
-      ReachedIn plan (calls ++ entries log .calls) first second pending′ next′ ends′ words′
 
 -- what is shown of a job reads its words alone: each of these holds of all that make the words a job
 

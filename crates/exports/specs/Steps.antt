@@ -7,7 +7,7 @@ use lib.Dec.{ltb}
 use Rattle.model.specs.Questions.{accepted, refused, answer-number}
 use Rattle.engine.specs.declared.Moved.{Moved}
 use Rattle.engine.specs.Answers.{answer-of}
-use Rattle.exports.specs.Memory.{numbers-in, course-in}
+use Rattle.memory.specs.Held.{numbers-in, course-in}
 
 -- a number of workers, with 65 for all from there on
 abbrev pub least-of-65 : ℕ → ℕ

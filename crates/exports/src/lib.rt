@@ -1,84 +1,16 @@
 // The static library: a job in memory that the caller lends, for C and Rust. Its arrays are those of `engine`; its numbers stand in
 // `words`. Each function answers with document 01's number of the refusal, or 0.
 ghost use mathlib.Core.Path.{_≡_};
-ghost use Rattle.model.specs.Questions.{answer-number};
 ghost use Rattle.model.specs.Machine.{ticks};
-ghost use Rattle.log.specs.Running.{log-answer-of};
-ghost use Rattle.exports.specs.Memory.{numbers-in, course-in, Held, HeldWith, HeldWords};
+ghost use Rattle.counters.specs.Line.{numbers-of};
+ghost use Rattle.memory.specs.Held.{Held, HeldWith, HeldWords};
 ghost use Rattle.exports.specs.Steps.{least-of-65, Settled};
-ghost use Rattle.exports.specs.Promises.{Accepts, Calls, Grants, RunsLog, ShowsStatus, ShowsCounters, ShowsLine, ShowsWording};
+ghost use Rattle.exports.specs.Promises.{Accepts, Calls, Grants, ShowsStatus, ShowsCounters, ShowsLine, ShowsWording};
 use counters::Counters;
 use counters::LineAnswer;
-use deque::MugCycles;
-use deque::Numbers;
-use deque::StealCycles;
-use deque::WorkCycles;
 use engine::CallAnswer;
-use engine::Course;
 use engine::Moved;
 use label::Found;
-use log::LogAnswer;
-
-// The job's numbers, from its words.
-fn numbers_in(words: &[u64; 18]) -> Numbers
-    ensures { λ r. ⌜ r ≡ numbers-in (now (words .entry)) ⌝ }
-{
-    Numbers {
-        tasks: (words[0] % 65536) as u16,
-        workers: (words[1] % 256) as u8,
-        done: (words[2] % 65536) as u16,
-        works: WorkCycles(words[3]),
-        mugs: MugCycles(words[4]),
-        steals: StealCycles(words[5]),
-        successes: words[6],
-        usage: words[7],
-        head: words[8] as usize,
-        waiting: words[9] as usize,
-    }
-}
-
-// The plan's numbers and those that calls move beside the execution, from the job's words.
-fn course_in(words: &[u64; 18]) -> Course
-    ensures { λ r. ⌜ r ≡ course-in (now (words .entry)) ⌝ }
-{
-    Course {
-        responsiveness: (words[10] % 256) as u8,
-        utilization: (words[11] % 256) as u8,
-        quantum_length: (words[12] % 65536) as u16,
-        desire: (words[13] % 256) as u8,
-        started: words[14] != 0,
-        is_open: words[15] != 0,
-        ticks: (words[16] % 65536) as u16,
-        begun: (words[17] % 65536) as u16,
-    }
-}
-
-// The job's numbers become its words.
-fn store(words: &mut [u64; 18], m: Numbers, c: Course)
-    ensures numbers { λ _. ⌜ numbers-in (now (words .exit)) ≡ m ⌝ }
-    ensures course { λ _. ⌜ course-in (now (words .exit)) ≡ c ⌝ }
-{
-    *words = [
-        m.tasks as u64,
-        m.workers as u64,
-        m.done as u64,
-        m.works.0,
-        m.mugs.0,
-        m.steals.0,
-        m.successes,
-        m.usage,
-        m.head as u64,
-        m.waiting as u64,
-        c.responsiveness as u64,
-        c.utilization as u64,
-        c.quantum_length as u64,
-        c.desire as u64,
-        c.started as u64,
-        c.is_open as u64,
-        c.ticks as u64,
-        c.begun as u64,
-    ];
-}
 
 // The numbers that an accepted call left become the words; after a refused one the words stay. The number of the answer.
 fn settle(words: &mut [u64; 18], moved: Moved) -> u8
@@ -90,7 +22,7 @@ fn settle(words: &mut [u64; 18], moved: Moved) -> u8
     };
     let numbers = moved.numbers;
     let course = moved.course;
-    store(words, numbers, course);
+    memory::store(words, numbers, course);
     0
 }
 
@@ -102,16 +34,6 @@ fn at_most_65(workers: u64) -> u8
         return workers as u8;
     }
     65
-}
-
-// The number of a log's answer.
-fn log_number(answer: LogAnswer) -> u8
-    ensures { λ r. ⌜ r ≡ answer-number (log-answer-of answer) ⌝ }
-{
-    match answer {
-        LogAnswer::Whole => 0,
-        LogAnswer::BrokenEntry => 18,
-    }
 }
 
 // A plan of any bytes: the memory becomes its fresh job. Refused, the memory stays as it came.
@@ -143,18 +65,22 @@ pub extern "C" fn jirvaldo_core_accept(
     *pending = its_pending;
     *next = its_next;
     *ends = its_ends;
-    store(words, job.numbers, job.course);
+    memory::store(words, job.numbers, job.course);
     0
 }
 
 // A grant of any number of workers. Refused, the memory stays as it came.
 #[no_mangle]
-pub extern "C" fn jirvaldo_core_grant(ends: &mut [u16; 256], words: &mut [u64; 18], workers: u64) -> u8
+pub extern "C" fn jirvaldo_core_grant(
+    ends: &mut [u16; 256],
+    words: &mut [u64; 18],
+    workers: u64,
+) -> u8
     requires { ⌜ HeldWith (now ends) (now words) ⌝ }
     ensures { λ r. ⌜ Grants workers (now (ends .entry)) (now (words .entry)) (now (ends .exit)) (now (words .exit)) r ⌝ }
 {
-    let m = numbers_in(words);
-    let c = course_in(words);
+    let m = memory::numbers_in(words);
+    let c = memory::course_in(words);
     let moved = engine::grant(ends, m, c, at_most_65(workers));
     settle(words, moved)
 }
@@ -173,36 +99,29 @@ pub extern "C" fn jirvaldo_core_tick(
     requires { ⌜ Held (now first) (now second) (now pending) (now next) (now ends) (now words) ⌝ }
     ensures { λ r. ⌜ Calls (ticks (now (choices .entry))) (now (first .entry)) (now (second .entry)) (now (pending .entry)) (now (next .entry)) (now (ends .entry)) (now (words .entry)) (now (pending .exit)) (now (next .exit)) (now (ends .exit)) (now (words .exit)) r ⌝ }
 {
-    let m = numbers_in(words);
-    let c = course_in(words);
+    let m = memory::numbers_in(words);
+    let c = memory::course_in(words);
     let moved = engine::tick(first, second, pending, next, ends, m, c, choices);
     settle(words, moved)
 }
 
-// A log of any bytes, run entry after entry; the count of its refused calls goes behind `refusals`. Refused (18), the memory and the count
-// are as the entries before the broken one left them.
-#[no_mangle]
-pub extern "C" fn jirvaldo_core_run_log(
-    first: &[u16; 1024],
-    second: &[u16; 1024],
-    pending: &mut [u8; 1024],
-    next: &mut [u16; 1024],
-    ends: &mut [u16; 256],
-    words: &mut [u64; 18],
-    log: &[u8],
-    refusals: &mut u64,
-) -> u8
-    requires { ⌜ Held (now first) (now second) (now pending) (now next) (now ends) (now words) ⌝ }
-    ensures { λ r. ⌜ RunsLog (now (log .entry)) (now (first .entry)) (now (second .entry)) (now (pending .entry)) (now (next .entry)) (now (ends .entry)) (now (words .entry)) (now (pending .exit)) (now (next .exit)) (now (ends .exit)) (now (words .exit)) (now (refusals .exit)) r ⌝ }
+// The status that the words show.
+fn status_in(words: &[u64; 18]) -> u8
+    ensures { λ r. ⌜ ShowsStatus (now (words .entry)) r ⌝ }
 {
-    let m = numbers_in(words);
-    let c = course_in(words);
-    let ran = log::run(first, second, pending, next, ends, m, c, log);
-    let numbers = ran.numbers;
-    let course = ran.course;
-    store(words, numbers, course);
-    *refusals = ran.refusals;
-    log_number(ran.answer)
+    let shown = job::status_of(memory::numbers_in(words), memory::course_in(words));
+    status::number_of(shown)
+}
+
+// The ten numbers of the counters line that the words show.
+fn counters_in(words: &[u64; 18], refusals: u64) -> Counters
+    ensures { λ r. ⌜ ShowsCounters (now (words .entry)) refusals (numbers-of r) ⌝ }
+{
+    report::counters_of(
+        memory::numbers_in(words),
+        memory::course_in(words),
+        refusals,
+    )
 }
 
 // The status of the job.
@@ -211,18 +130,21 @@ pub extern "C" fn jirvaldo_core_status(words: &[u64; 18]) -> u8
     requires { ⌜ HeldWords (now words) ⌝ }
     ensures { λ r. ⌜ ShowsStatus (now (words .entry)) r ⌝ }
 {
-    let shown = job::status_of(numbers_in(words), course_in(words));
-    status::number_of(shown)
+    status_in(words)
 }
 
-// Where the wording of the job's status starts in the sheet, and how many bytes it has.
+// Where the wording of the job's status starts in the sheet, and how many bytes it has. Refused (19), both are 0.
 #[no_mangle]
-pub extern "C" fn jirvaldo_core_wording(words: &[u64; 18], sheet: &[u8], start: &mut usize, size: &mut usize) -> u8
+pub extern "C" fn jirvaldo_core_wording(
+    words: &[u64; 18],
+    sheet: &[u8],
+    start: &mut usize,
+    size: &mut usize,
+) -> u8
     requires { ⌜ HeldWords (now words) ⌝ }
     ensures { λ r. ⌜ ShowsWording (now (words .entry)) (now (sheet .entry)) (now (start .exit)) (now (size .exit)) r ⌝ }
 {
-    let shown = job::status_of(numbers_in(words), course_in(words));
-    let found = label::find(sheet, status::number_of(shown));
+    let found = label::find(sheet, status_in(words));
     let Found::At(from, count) = found else {
         *start = 0;
         *size = 0;
@@ -239,22 +161,26 @@ pub extern "C" fn jirvaldo_core_counters(words: &[u64; 18], refusals: u64, numbe
     requires { ⌜ HeldWords (now words) ⌝ }
     ensures { λ _. ⌜ ShowsCounters (now (words .entry)) refusals (now (numbers .exit)) ⌝ }
 {
-    let shown = report::counters_of(numbers_in(words), course_in(words), refusals);
-    *numbers = counters::numbers(shown);
+    *numbers = counters::numbers(counters_in(words, refusals));
 }
 
-// The job's counters line at the start of a buffer of 128 bytes or more, and its size behind `size`. A smaller buffer stays as it came.
+// The job's counters line at the start of a buffer of 128 bytes or more, and its size behind `size`. Refused (20), the buffer stays as it came,
+// and the size is 0.
 #[no_mangle]
-pub extern "C" fn jirvaldo_core_line(words: &[u64; 18], refusals: u64, buffer: &mut [u8], size: &mut usize) -> u8
+pub extern "C" fn jirvaldo_core_line(
+    words: &[u64; 18],
+    refusals: u64,
+    buffer: &mut [u8],
+    size: &mut usize,
+) -> u8
     requires { ⌜ HeldWords (now words) ⌝ }
     ensures { λ r. ⌜ ShowsLine (now (words .entry)) refusals (now (buffer .entry)) (now (buffer .exit)) (now (size .exit)) r ⌝ }
 {
-    let shown = report::counters_of(numbers_in(words), course_in(words), refusals);
-    let answer = counters::write_line(shown, buffer);
-    let LineAnswer::Written(count) = answer else {
+    let answer = counters::write_line(counters_in(words, refusals), buffer);
+    let LineAnswer::Written(length) = answer else {
         *size = 0;
         return 20;
     };
-    *size = count;
+    *size = length;
     0
 }

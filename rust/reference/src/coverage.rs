@@ -140,9 +140,31 @@ impl Coverage {
         }
     }
 
+    /// Runs an input as the program does and counts.
+    pub fn cover_input(&mut self, input: &[u8]) {
+        self.cases += 1;
+        let accepted = split_input(input).and_then(|(plan, log)| Ok((Job::accept(plan)?, log)));
+        match accepted {
+            Ok((mut job, log)) => {
+                self.cover_calls(&mut job, log);
+            }
+            Err(refusal) => self.refuse(refusal),
+        }
+    }
+
     fn cover_log(&mut self, mut job: Job, case: &Case) {
+        let refused = self.cover_calls(&mut job, &case.log);
+        let mut buffer = vec![0; case.buffer];
+        let line = counters_line(&job, refused, &mut buffer);
+        let part = wording(&case.sheet, job.status());
+        let refusals = [line.err(), part.err()];
+        refusals.into_iter().flatten().for_each(|r| self.refuse(r));
+    }
+
+    /// Runs a log on a fresh job, and returns how many calls were refused.
+    fn cover_calls(&mut self, job: &mut Job, log: &[u8]) -> u64 {
         add(&mut self.responsiveness, job.plan().responsiveness());
-        let outcome = run_log_with(&mut job, &case.log, |job, _, answer| {
+        let outcome = run_log_with(job, log, |job, _, answer| {
             self.calls += 1;
             match answer {
                 Ok(Report::Grant(report)) => self.cover_grant(job, report),
@@ -150,12 +172,9 @@ impl Coverage {
                 Err(refusal) => self.refuse(*refusal),
             }
         });
-        let mut buffer = vec![0; case.buffer];
-        let line = counters_line(&job, outcome.refused, &mut buffer);
-        let part = wording(&case.sheet, job.status());
-        let refusals = [outcome.broken, line.err(), part.err()];
-        refusals.into_iter().flatten().for_each(|r| self.refuse(r));
+        outcome.broken.into_iter().for_each(|r| self.refuse(r));
         add(&mut self.statuses, usize::from(job.status().number()));
+        outcome.refused
     }
 
     fn refuse(&mut self, refusal: Refusal) {

@@ -5,7 +5,7 @@
 //! Reading order, which is document 01's: [`plan`], [`job`] (grant and tick),
 //! [`quantum`] (round's end), [`log`], [`label`], [`counters`], [`program`].
 //! [`generator`] makes random plans and logs from a seed and [`coverage`]
-//! counts what they reach.
+//! counts what they reach. [`stored`] chooses a set of cases to be kept.
 //!
 //! Names are the field's terms; each definition says document 01's own word.
 
@@ -21,6 +21,7 @@ pub mod plan;
 pub mod program;
 pub mod quantum;
 pub mod refusal;
+pub mod stored;
 
 pub use counters::{counters_line, counters_text};
 pub use job::{Cycle, GrantReport, Job, OpenQuantum, Status, TickReport};

@@ -1,4 +1,5 @@
-//! The command line: `run`, `cases SEED COUNT DIR`, `coverage SEED COUNT`.
+//! The command line: `run`, `cases SEED COUNT DIR`, `coverage SEED COUNT`,
+//! `vectors SEED FILE`.
 
 use std::error::Error;
 use std::io::{self, Read, Write};
@@ -9,8 +10,10 @@ use std::{env, fs};
 use reference::coverage::Coverage;
 use reference::generator::cases;
 use reference::program::{program_output, MOST_INPUT};
+use reference::stored::{stored_cases, stored_set};
 
-const USAGE: &str = "usage: reference run | cases SEED COUNT DIR | coverage SEED COUNT";
+const USAGE: &str =
+    "usage: reference run | cases SEED COUNT DIR | coverage SEED COUNT | vectors SEED FILE";
 
 fn main() -> ExitCode {
     let arguments: Vec<String> = env::args_os()
@@ -22,6 +25,7 @@ fn main() -> ExitCode {
         ["run"] => run(),
         ["cases", seed, count, directory] => write_cases(seed, count, Path::new(directory)),
         ["coverage", seed, count] => print_coverage(seed, count),
+        ["vectors", seed, file] => write_vectors(seed, Path::new(file)),
         _ => Err(USAGE.into()),
     };
     match done {
@@ -64,4 +68,19 @@ fn print_coverage(seed: &str, count: &str) -> Result<(), Box<dyn Error>> {
         coverage.cover(&case);
     }
     Ok(writeln!(io::stdout().lock(), "{coverage}")?)
+}
+
+/// Writes the stored set of a seed and prints what it reaches.
+fn write_vectors(seed: &str, file: &Path) -> Result<(), Box<dyn Error>> {
+    let set = stored_set(seed.parse()?);
+    let mut coverage = Coverage::default();
+    for (input, _) in stored_cases(&set).unwrap_or_default() {
+        coverage.cover_input(input);
+    }
+    fs::write(file, &set)?;
+    Ok(writeln!(
+        io::stdout().lock(),
+        "{:>10}  bytes\n{coverage}",
+        set.len()
+    )?)
 }

@@ -56,26 +56,38 @@ pub struct Style {
     pub ending: Ending,
 }
 
+/// Every way to grant.
+pub const GRANTS: [Grants; 7] = [
+    Grants::Full,
+    Grants::Any,
+    Grants::OnOff,
+    Grants::Wave,
+    Grants::OneLess,
+    Grants::Late,
+    Grants::Pauses,
+];
+
+/// Every way to choose, the likeliest twice.
+pub const CHOICES: [Choices; 6] = [
+    Choices::Any,
+    Choices::Any,
+    Choices::Own,
+    Choices::First,
+    Choices::Last,
+    Choices::Richest,
+];
+
+/// Every ending, the likeliest twice.
+pub const ENDINGS: [Ending; 4] = [Ending::Plain, Ending::Plain, Ending::Late, Ending::Broken];
+
 /// Any style.
 pub fn style(random: &mut Random) -> Style {
-    use {Choices as C, Grants as G};
-    let grants = [
-        G::Full,
-        G::Any,
-        G::OnOff,
-        G::Wave,
-        G::OneLess,
-        G::Late,
-        G::Pauses,
-    ];
-    let choices = [C::Any, C::Any, C::Own, C::First, C::Last, C::Richest];
-    let endings = [Ending::Plain, Ending::Plain, Ending::Late, Ending::Broken];
     Style {
-        grants: *random.pick(&grants).unwrap_or(&G::Full),
-        choices: *random.pick(&choices).unwrap_or(&C::Any),
+        grants: *random.pick(&GRANTS).unwrap_or(&Grants::Full),
+        choices: *random.pick(&CHOICES).unwrap_or(&Choices::Any),
         stray: *random.pick(&[0, 0, 4, 40, 120]).unwrap_or(&0),
         budget: budget(random),
-        ending: *random.pick(&endings).unwrap_or(&Ending::Plain),
+        ending: *random.pick(&ENDINGS).unwrap_or(&Ending::Plain),
     }
 }
 

@@ -3,6 +3,7 @@
 
 pub mod case;
 pub mod damage;
+pub mod edges;
 pub mod graph;
 pub mod logs;
 pub mod plans;

@@ -6,6 +6,7 @@ mod generated;
 mod mechanics;
 mod properties;
 mod refusals;
+mod stored;
 
 use reference::{Job, Refusal};
 

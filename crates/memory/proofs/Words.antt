@@ -1,14 +1,15 @@
 -- What is stored in the words is read back: every number fits its bits.
 -- Assumes nothing.
 use mathlib.Core.Path.{_≡_, refl, sym, ap, _∙_}
-use mathlib.Core.Bool.{Bool, true, false, cond, not}
+use mathlib.Core.Bool.{Bool, true, false, not}
 use mathlib.Core.List.{List, [], _∷_}
 use Prim.Native.Nat.{ℕ, _+_, _%_, _^_, _<_}
 use native.Mathlib.Omega.{arith}
 use lib.Dec.{eqb}
+use mir.Val.{boolByte}
 use Rattle.deque.specs.declared.Numbers.{Numbers}
 use Rattle.engine.specs.declared.Course.{Course}
-use Rattle.exports.specs.Memory.{numbers-in, course-in}
+use Rattle.memory.specs.Held.{numbers-in, course-in}
 
 -- the words of a job's numbers
 abbrev pub words-of : Numbers → Course → List ℕ
@@ -27,8 +28,8 @@ words-of m c =
     ∷ c .utilization
     ∷ c .«quantum_length»
     ∷ c .desire
-    ∷ cond (c .started) 1 0
-    ∷ cond (c .«is_open») 1 0
+    ∷ boolByte (c .started)
+    ∷ boolByte (c .«is_open»)
     ∷ c .ticks
     ∷ c .begun
     ∷ []
@@ -53,7 +54,7 @@ byte n l = omega (arith, l)
 half : (n : ℕ) → n < 2 ^ 16 → n % 2 ^ 16 ≡ n
 half n l = omega (arith, l)
 
-flag : (b : Bool) → not (eqb (cond b 1 0) 0) ≡ b
+flag : (b : Bool) → not (eqb (boolByte b) 0) ≡ b
 flag true = refl
 flag false = refl
 
@@ -62,12 +63,13 @@ numbers-back m c fit = rw (half _ (fit .tasks), byte _ (fit .workers), half _ (f
 
 pub course-back : (m : Numbers) (c : Course) → CourseFits c → course-in (words-of m c) ≡ c
 course-back m c fit =
-    rw
-    (byte _ (fit .responsiveness),
-    byte _ (fit .utilization),
-    half _ (fit .quantum-length),
-    byte _ (fit .desire),
-    flag (c .started),
-    flag (c .«is_open»),
-    half _ (fit .ticks),
-    half _ (fit .begun))
+    rw (
+      byte _ (fit .responsiveness),
+      byte _ (fit .utilization),
+      half _ (fit .quantum-length),
+      byte _ (fit .desire),
+      flag (c .started),
+      flag (c .«is_open»),
+      half _ (fit .ticks),
+      half _ (fit .begun),
+    )

@@ -1,0 +1,2 @@
+-- Held: the job that lent memory holds.
+pub mod Held

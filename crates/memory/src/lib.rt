@@ -1,0 +1,69 @@
+// The numbers of a job in memory that the caller lends: `words`, beside the arrays of the in-place core. What is stored is read back.
+ghost use mathlib.Core.Path.{_≡_};
+ghost use Rattle.memory.specs.Held.{numbers-in, course-in};
+use deque::MugCycles;
+use deque::Numbers;
+use deque::StealCycles;
+use deque::WorkCycles;
+use engine::Course;
+
+// The job's numbers, from its words.
+pub fn numbers_in(words: &[u64; 18]) -> Numbers
+    ensures { λ r. ⌜ r ≡ numbers-in (now (words .entry)) ⌝ }
+{
+    Numbers {
+        tasks: (words[0] % 65536) as u16,
+        workers: (words[1] % 256) as u8,
+        done: (words[2] % 65536) as u16,
+        works: WorkCycles(words[3]),
+        mugs: MugCycles(words[4]),
+        steals: StealCycles(words[5]),
+        successes: words[6],
+        usage: words[7],
+        head: words[8] as usize,
+        waiting: words[9] as usize,
+    }
+}
+
+// The plan's numbers and those that calls move beside the execution, from the job's words.
+pub fn course_in(words: &[u64; 18]) -> Course
+    ensures { λ r. ⌜ r ≡ course-in (now (words .entry)) ⌝ }
+{
+    Course {
+        responsiveness: (words[10] % 256) as u8,
+        utilization: (words[11] % 256) as u8,
+        quantum_length: (words[12] % 65536) as u16,
+        desire: (words[13] % 256) as u8,
+        started: words[14] != 0,
+        is_open: words[15] != 0,
+        ticks: (words[16] % 65536) as u16,
+        begun: (words[17] % 65536) as u16,
+    }
+}
+
+// The job's numbers become its words.
+pub fn store(words: &mut [u64; 18], m: Numbers, c: Course)
+    ensures numbers { λ _. ⌜ numbers-in (now (words .exit)) ≡ m ⌝ }
+    ensures course { λ _. ⌜ course-in (now (words .exit)) ≡ c ⌝ }
+{
+    *words = [
+        m.tasks as u64,
+        m.workers as u64,
+        m.done as u64,
+        m.works.0,
+        m.mugs.0,
+        m.steals.0,
+        m.successes,
+        m.usage,
+        m.head as u64,
+        m.waiting as u64,
+        c.responsiveness as u64,
+        c.utilization as u64,
+        c.quantum_length as u64,
+        c.desire as u64,
+        c.started as u64,
+        c.is_open as u64,
+        c.ticks as u64,
+        c.begun as u64,
+    ];
+}

@@ -1,0 +1,189 @@
+//! The stored set: chosen cases in one stretch of bytes, for a program that
+//! runs them one after the other. A case is the input's size in three bytes,
+//! the input, the output's size in one byte, and the output.
+
+use crate::generator::edges::edge_plans;
+use crate::generator::graph::{graph, Shape, MOST_TASKS};
+use crate::generator::logs::{guided_log, Grants, Style, Writer, CHOICES, ENDINGS, GRANTS};
+use crate::generator::plans::{wide_draft, Draft};
+use crate::generator::{cases, Random};
+use crate::job::Job;
+use crate::plan::{big_endian, split};
+use crate::program::{program_output, MOST_INPUT};
+use crate::quantum::MOST_WORKERS;
+
+/// The seed of the set that is kept in the repository.
+pub const KEPT_SEED: u64 = 1;
+
+/// A generated case up to this size is taken.
+const SMALL: usize = 400;
+
+/// Generated cases are taken until the set has this size.
+const ENOUGH: usize = 220_000;
+
+const SHAPES: [Shape; 5] = [
+    Shape::Chain,
+    Shape::Comb,
+    Shape::ForkJoin,
+    Shape::Layered { width: 12 },
+    Shape::Tangled { width: 12 },
+];
+
+/// The set of a seed: made cases, generated ones, and the longest two.
+pub fn stored_set(seed: u64) -> Vec<u8> {
+    let mut random = Random::new(seed);
+    let mut set = Vec::new();
+    let made = [bare(), edges(), shaped(&mut random), wide(&mut random)].concat();
+    for input in made {
+        store(&mut set, &input);
+    }
+    let small = cases(seed).filter(|case| case.input.len() <= SMALL);
+    for case in small {
+        store(&mut set, &case.input);
+        if set.len() >= ENOUGH {
+            break;
+        }
+    }
+    for (size, output) in [(MOST_INPUT, "2"), (MOST_INPUT + 1, "refused")] {
+        store(&mut set, &long(seed, size, output));
+    }
+    set
+}
+
+/// The first generated input of a size whose output begins so. A job that is
+/// held at the end takes every call that fills the input up.
+fn long(seed: u64, size: usize, output: &str) -> Vec<u8> {
+    let mut inputs = cases(seed).map(|case| case.input);
+    let fits = |input: &Vec<u8>| input.len() == size && program_output(input).starts_with(output);
+    inputs.find(fits).unwrap_or_default()
+}
+
+/// Adds a case at the end.
+fn store(set: &mut Vec<u8>, input: &[u8]) {
+    let output = program_output(input);
+    set.extend_from_slice(&(input.len() as u32).to_be_bytes()[1..]);
+    set.extend_from_slice(input);
+    set.push(output.len() as u8);
+    set.extend_from_slice(output.as_bytes());
+}
+
+/// The shortest inputs, and a log that is broken at its first entry and at
+/// its second.
+fn bare() -> Vec<Vec<u8>> {
+    let mut random = Random::new(0);
+    let plan = draft(&mut random, Shape::Chain, 3, 2).bytes();
+    let logs: [&[u8]; 4] = [&[], &[0x81], &[0x01, 0x81], &[0x01, 0x81, 0x00, 0xff]];
+    let short = [vec![], vec![0], vec![0, 0]];
+    let broken = logs.iter().map(|log| input(&plan, log));
+    short.into_iter().chain(broken).collect()
+}
+
+/// The plans at the edge of each question, each with example 1's log.
+fn edges() -> Vec<Vec<u8>> {
+    let log = [1, 0x81, 0, 0x81, 0, 2, 0x82, 0, 0, 0x82, 0, 0];
+    let plans = edge_plans().into_iter();
+    plans.map(|plan| input(&plan, &log)).collect()
+}
+
+/// Every shape with every way to grant, and every shape with the fewest and
+/// the most tasks.
+fn shaped(random: &mut Random) -> Vec<Vec<u8>> {
+    let mut inputs = Vec::new();
+    for shape in SHAPES {
+        for grants in GRANTS {
+            let count = random.between(8, 90);
+            inputs.push(followed(random, shape, count, grants, inputs.len()));
+        }
+        for count in [1, 2, MOST_TASKS] {
+            inputs.push(followed(random, shape, count, Grants::Full, inputs.len()));
+        }
+    }
+    inputs
+}
+
+/// Plans for many workers, one for each responsiveness, and one with every
+/// allotment.
+fn wide(random: &mut Random) -> Vec<Vec<u8>> {
+    let mut inputs = vec![every_allotment(random)];
+    for responsiveness in 2..=7 {
+        let mut draft = wide_draft(random);
+        draft.responsiveness = responsiveness;
+        let index = inputs.len();
+        inputs.push(logged(random, &draft, GRANTS[index % 2], index));
+    }
+    inputs
+}
+
+/// The desire climbs to 64; then 64 workers are granted, and one less each
+/// time down to none. All choose worker 0.
+fn every_allotment(random: &mut Random) -> Vec<u8> {
+    let mut draft = draft(random, Shape::Layered { width: 8 }, MOST_TASKS, 2);
+    draft.utilization = 1;
+    draft.quantum_length = 1;
+    let plan = draft.bytes();
+    let counts = [1, 2, 4, 8, 16, 32].into_iter();
+    let log = Job::accept(&plan).map(|job| {
+        let mut writer = Writer::new(job);
+        for count in counts.chain((0..=MOST_WORKERS).rev()) {
+            writer.grant(count);
+            writer.tick(&vec![0; count]);
+        }
+        writer.bytes
+    });
+    input(&plan, &log.unwrap_or_default())
+}
+
+/// An input of a shape whose log follows the job. The index picks what the
+/// grants leave open.
+fn followed(
+    random: &mut Random,
+    shape: Shape,
+    count: usize,
+    grants: Grants,
+    index: usize,
+) -> Vec<u8> {
+    let draft = draft(random, shape, count, 2 + index as u64 % 6);
+    logged(random, &draft, grants, index)
+}
+
+fn draft(random: &mut Random, shape: Shape, count: usize, responsiveness: u64) -> Draft {
+    let mut draft = Draft::of_graph(&graph(random, shape, count));
+    draft.responsiveness = responsiveness;
+    draft.utilization = random.between(1, 100) as u64;
+    draft.quantum_length = random.between(1, 4) as u64;
+    draft
+}
+
+fn logged(random: &mut Random, draft: &Draft, grants: Grants, index: usize) -> Vec<u8> {
+    let style = Style {
+        grants,
+        choices: CHOICES[index % CHOICES.len()],
+        stray: [0, 40][index % 2],
+        budget: 3_000,
+        ending: ENDINGS[index % ENDINGS.len()],
+    };
+    let plan = draft.bytes();
+    let log = Job::accept(&plan).map(|job| guided_log(random, job, &style));
+    input(&plan, &log.unwrap_or_default())
+}
+
+/// The program's input: plan length in 16 bits, plan, log.
+fn input(plan: &[u8], log: &[u8]) -> Vec<u8> {
+    [&(plan.len() as u16).to_be_bytes(), plan, log].concat()
+}
+
+/// The cases of a set, each an input with its output; nothing where the set
+/// is cut off.
+pub fn stored_cases(set: &[u8]) -> Option<Vec<(&[u8], &[u8])>> {
+    let mut cases = Vec::new();
+    let mut rest = set;
+    while !rest.is_empty() {
+        let (size, after) = split(rest, 3)?;
+        let (input, after) = split(after, big_endian(size) as usize)?;
+        let (&size, after) = after.split_first()?;
+        let (output, after) = split(after, usize::from(size))?;
+        cases.push((input, output));
+        rest = after;
+    }
+    Some(cases)
+}

@@ -1,0 +1,99 @@
+//! The stored set that is kept in the repository.
+
+use reference::coverage::{Coverage, BRANCHES};
+use reference::stored::{stored_cases, stored_set, KEPT_SEED};
+use reference::{program_output, read_plan, split_input, Entries, Refusal};
+
+/// The kept set, which the crate `vectors` runs, and what it must write.
+const KEPT: &[u8] = include_bytes!("../../../../crates/vectors/stdin");
+const WRITTEN: &str = include_str!("../../../../crates/vectors/stdout");
+
+/// No input can reach 13, whose log has 131,070 bytes or more; 19 and 20 are
+/// not asked by the program.
+const NOT_THE_PROGRAMS: [Refusal; 3] = [
+    Refusal::QuantaExhausted,
+    Refusal::WordingMissing,
+    Refusal::BufferTooSmall,
+];
+
+/// The kept set's cases.
+fn kept() -> Vec<(&'static [u8], &'static [u8])> {
+    stored_cases(KEPT).expect("a set that is not cut off")
+}
+
+#[test]
+fn kept_set_is_what_the_seed_gives() {
+    assert!(stored_set(KEPT_SEED) == KEPT);
+    let count = kept().len();
+    let line = format!("{count} cases ran, {count} as the second implementation says\n");
+    assert_eq!(WRITTEN, line);
+}
+
+#[test]
+fn kept_outputs_are_the_programs() {
+    for (index, (input, output)) in kept().into_iter().enumerate() {
+        assert!(program_output(input).as_bytes() == output, "case {index}");
+    }
+}
+
+#[test]
+fn kept_set_reaches_everything() {
+    let mut coverage = Coverage::default();
+    for (input, _) in kept() {
+        coverage.cover_input(input);
+    }
+    for refusal in Refusal::ALL {
+        let possible = !NOT_THE_PROGRAMS.contains(&refusal);
+        assert_eq!(coverage.refusal(refusal) > 0, possible, "{refusal}");
+    }
+    for (branch, name) in BRANCHES {
+        assert!(coverage.branch(branch) > 0, "never reached {name}");
+    }
+    assert!(coverage.responsiveness()[2..].iter().all(|&n| n > 0));
+    assert!(coverage.allotments().iter().all(|&n| n > 0));
+}
+
+#[test]
+fn kept_set_has_the_smallest_and_the_largest() {
+    let sizes: Vec<usize> = kept().iter().map(|(input, _)| input.len()).collect();
+    for size in [0, 1, 2, 65_536, 65_537] {
+        assert!(sizes.contains(&size), "no input of {size} bytes");
+    }
+    let tasks = |input: &[u8]| Some(read_plan(split_input(input).ok()?.0).ok()?.task_count());
+    let counts: Vec<usize> = kept()
+        .iter()
+        .filter_map(|(input, _)| tasks(input))
+        .collect();
+    for count in [1, 2, 1_024] {
+        assert!(counts.contains(&count), "no plan of {count} tasks");
+    }
+}
+
+/// How many whole entries a log has before a broken one; nothing where none
+/// is broken.
+fn before_the_broken(input: &[u8]) -> Option<usize> {
+    let (plan, log) = split_input(input).ok()?;
+    read_plan(plan).ok()?;
+    Entries::new(log).position(|entry| entry.is_err())
+}
+
+#[test]
+fn kept_set_has_logs_broken_early_and_late() {
+    let places = kept()
+        .into_iter()
+        .filter_map(|(input, _)| before_the_broken(input));
+    let places: Vec<usize> = places.collect();
+    assert!(places.contains(&0) && places.iter().any(|&place| place > 10));
+}
+
+#[test]
+fn a_cut_set_has_no_cases() {
+    let set = &KEPT[..4_000];
+    let whole = (0..set.len()).filter(|&size| stored_cases(&set[..size]).is_some());
+    let mut ends = vec![0];
+    for (input, output) in kept() {
+        ends.push(ends[ends.len() - 1] + 4 + input.len() + output.len());
+    }
+    ends.retain(|&end| end < set.len());
+    assert_eq!(whole.collect::<Vec<_>>(), ends);
+}
