@@ -1,6 +1,6 @@
 //! What a job's memory holds, for consoles and tests: the deques, the worked tasks, the open quantum, the plan.
 //!
-//! This reads the memory in plain Rust, by the view of `crates/exports/specs/Memory.antt` and `crates/deque/specs/View.antt`, over which
+//! This reads the memory in plain Rust, by the view of `crates/memory/specs/Held.antt` and `crates/deque/specs/View.antt`, over which
 //! the library's promises are stated. It is written after these definitions and not itself proved.
 //!
 //! ```
