@@ -2,6 +2,7 @@
 
 use std::time::Instant;
 
+use reference::generator::edges::edge_plans;
 use reference::generator::logs::marathon_log;
 use reference::generator::Random;
 
@@ -39,12 +40,19 @@ fn run_case(seed: u64, case: u64, totals: &mut Totals) -> Result<(), Found> {
     })
 }
 
-/// A plan and, where it is accepted, a log, which at times is run whole too. Case 0 begins more quanta than a job may have.
+/// Case 0 has a plan for more quanta than a job may have, the next cases have those at the edge of each question, all others any.
+fn plan(random: &mut Random, case: u64) -> Vec<u8> {
+    if case == 0 {
+        return inputs::marathon_plan(random);
+    }
+    let place = usize::try_from(case - 1).unwrap_or(usize::MAX);
+    let edge = edge_plans().into_iter().nth(place);
+    edge.unwrap_or_else(|| inputs::plan(random))
+}
+
+/// A plan and, where it is accepted, a log, which at times is run whole too.
 fn try_case(random: &mut Random, case: u64, totals: &mut Totals) -> Result<(), Difference> {
-    let plan = match case {
-        0 => inputs::marathon_plan(random),
-        _ => inputs::plan(random),
-    };
+    let plan = plan(random, case);
     let pair = match accept(random, &plan, totals)? {
         Some(pair) => pair,
         None => return Ok(()),
