@@ -9,12 +9,6 @@ use crate::inputs;
 use crate::pair::{proved_number, reference_number, Call, Pair};
 use crate::totals::{entry_size, Totals};
 
-/// Out of 512 calls, before how many something else is done.
-const ODD_CALLS: usize = 6;
-const SHOWS: usize = 4;
-const LOGS: usize = 2;
-const BRANCHES: usize = 2;
-
 /// A log that is run whole between two calls has at most this many bytes.
 const MOST_ASIDE: usize = 2_000;
 
@@ -38,20 +32,13 @@ impl Walk<'_> {
         self.show()
     }
 
-    /// Now and then something that is not in the log.
+    /// Before 14 of 512 calls something that is not in the log.
     fn aside(&mut self, rest: &[u8]) -> Result<(), Difference> {
-        let place = self.random.below(512);
-        let bounds = [ODD_CALLS, SHOWS, LOGS, BRANCHES]
-            .iter()
-            .scan(0, |end, size| {
-                *end += size;
-                Some(*end)
-            });
-        match bounds.filter(|&end| end <= place).count() {
-            0 => self.odd_call(),
-            1 => self.show(),
-            2 => self.whole(rest),
-            3 => self.branch(),
+        match self.random.below(512) {
+            0..=5 => self.odd_call(),
+            6..=9 => self.show(),
+            10 | 11 => self.whole(rest),
+            12 | 13 => self.branch(),
             _ => Ok(()),
         }
     }
