@@ -2,7 +2,7 @@
 
 use std::fmt;
 
-use reference::{Entries, Entry};
+use reference::Entries;
 
 use crate::pair::{Call, Reference};
 
@@ -109,14 +109,6 @@ impl Totals {
         self.logs += 1;
         self.log_calls += Entries::new(log).filter(|entry| entry.is_ok()).count() as u64;
         self.count_refusal(number);
-    }
-}
-
-/// The number of bytes of an entry.
-pub fn entry_size(entry: &Entry) -> usize {
-    match entry {
-        Entry::Grant(_) => 1,
-        Entry::Tick(choices) => 1 + choices.len(),
     }
 }
 

@@ -1,13 +1,13 @@
 //! A log is given to both, entry by entry.
 
 use reference::generator::Random;
-use reference::{counters_line, counters_text, wording, Entries};
+use reference::{counters_line, counters_text, wording, Entries, Entry};
 
 use crate::compare;
 use crate::difference::Difference;
 use crate::inputs;
 use crate::pair::{proved_number, reference_number, Call, Pair};
-use crate::totals::{entry_size, Totals};
+use crate::totals::Totals;
 
 /// A log that is run whole between two calls has at most this many bytes.
 const MOST_ASIDE: usize = 2_000;
@@ -60,7 +60,7 @@ impl Walk<'_> {
         self.pair.clone().run_log(&log[..end], self.totals)
     }
 
-    /// Copies take calls of their own. That the originals have not moved is seen after their next call.
+    /// Copies take calls of their own; the originals must not move.
     fn branch(&mut self) -> Result<(), Difference> {
         self.totals.branches += 1;
         let mut copies = self.pair.clone();
@@ -117,5 +117,13 @@ impl Walk<'_> {
                 .pair
                 .difference(part, format!("{refused} refused calls"))),
         }
+    }
+}
+
+/// The number of bytes of an entry.
+fn entry_size(entry: &Entry) -> usize {
+    match entry {
+        Entry::Grant(_) => 1,
+        Entry::Tick(choices) => 1 + choices.len(),
     }
 }
