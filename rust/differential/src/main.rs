@@ -1,1 +1,67 @@
-fn main() {}
+//! Compares the proved library, through the crate `jirvaldo`, with the second implementation, the crate `reference`, call by call.
+//!
+//! `differential [--calls N] [--seconds T] [--seed S] [--case K]` makes plans and logs from a seed and gives them to both:
+//! - a plan: both accept it, and their plans and fresh states are the same, or both refuse it with the same number;
+//! - a grant or a tick: both give the same answer, and then the whole states are the same: worked tasks, every deque and every muggable
+//!   deque task by task, desire, allotment, quantum and its usage, counts, status and the ten counters. After a refused call the reference
+//!   is also compared with the proved job's copy from before. This is so of every call that the last lines count, whatever the plan's size;
+//! - a whole log, run by `run_log` on copies: the same answer, the same count of refused calls and the same whole states at its end;
+//! - copies that then take other calls: the originals go on as if there were no copies;
+//! - at random places and at the end of each log: the wording from a random sheet and the counters line in buffers of many sizes, with the
+//!   bytes around it.
+//!
+//! Case 0 begins more quanta than a job may have, and the next cases have the plans at the edge of each question. The run stops at the end
+//! of the case in which it has made N calls or T seconds have passed; the same seed gives the same cases. At the first difference it
+//! prints the seed, the case, the call and both states, and exits with 1; `--case K` runs that case alone.
+
+#![forbid(unsafe_code)]
+
+mod accept;
+mod compare;
+mod difference;
+mod inputs;
+mod options;
+mod pair;
+mod run;
+#[cfg(test)]
+mod tests;
+mod totals;
+mod walk;
+
+use std::env;
+use std::process::ExitCode;
+use std::time::Instant;
+
+use options::Options;
+use totals::Totals;
+
+fn main() -> ExitCode {
+    let words = env::args_os().skip(1);
+    let words: Vec<String> = words.map(|w| w.to_string_lossy().into_owned()).collect();
+    let options = match Options::read(&words) {
+        Ok(options) => options,
+        Err(text) => {
+            eprintln!("{text}");
+            return ExitCode::from(2);
+        }
+    };
+    let (start, mut totals) = (Instant::now(), Totals::default());
+    let ran = run::run(&options, &mut totals);
+    let seconds = start.elapsed().as_secs_f64();
+    println!("{totals}");
+    println!(
+        "{:>12.1}  seconds, {:.0} calls a second",
+        seconds,
+        totals.calls as f64 / seconds
+    );
+    match ran {
+        Ok(()) => {
+            println!("seed {}: no difference", options.seed);
+            ExitCode::SUCCESS
+        }
+        Err(found) => {
+            println!("seed {}: {found}", options.seed);
+            ExitCode::FAILURE
+        }
+    }
+}

@@ -1,1 +1,62 @@
-//! A safe crate over the proved static library.
+//! A proved A-Steal scheduler core (ACM TOCS 26(3), 2008): a safe crate over its static library.
+//!
+//! A plan is a task graph in bytes. [`Job::accept`] reads it and makes a [`Job`], or refuses it by number. Then by turns: a
+//! [grant](Job::grant) of at most as many workers as the job [desires](Job::desire), which opens a quantum, and [ticks](Job::tick) until it
+//! closes, L of them. The job is finished when every task is worked.
+//!
+//! ```
+//! use jirvaldo::{Job, Refusal};
+//!
+//! # fn main() -> Result<(), Refusal> {
+//! // form 1, R = 2, D = 80, L = 2, N = 4; task 0 is followed by 1 and 2, these by 3
+//! let plan = [0x15, 0x40, 0x00, 0x08, 0x03, 0x80, 0x08, 0x02, 0x40, 0x18, 0x00, 0x40, 0x18, 0x00, 0, 0, 0];
+//! let mut job = Job::accept(&plan)?;
+//! job.grant(1)?;
+//! job.tick(&[0])?;
+//! job.tick(&[0])?; // the quantum was efficient: the job now desires 2 workers
+//! job.grant(job.desire())?;
+//! job.tick(&[0, 0])?; // worker 1 has nothing to work on and tries to steal from worker 0
+//! job.tick(&[0, 0])?;
+//! assert!(job.is_finished());
+//! assert_eq!(&*job.line(0), "3 4 4 2 2 4 0 1 0 0");
+//! # Ok(())
+//! # }
+//! ```
+//!
+//! # What is proved and what is not
+//! Every function of the static library is proved to answer and to move the job as the definitions say, for any plan, any calls and any
+//! bytes. This crate adds the Rust types. Its unsafe code is one private module, which lends the library a job's memory; safe code can't
+//! make a job other than by acceptance, so the one thing that the library asks for always holds. [`inspect`] reads the memory in plain
+//! Rust, for consoles and tests; that reading is tested and not proved.
+//!
+//! # The archive
+//! The build script links `libjirvaldo.a` from the directory that the environment variable `JIRVALDO_LIB_DIR` names, or else from
+//! `target/jirvaldo` of the repository, where `tools/build-library` puts it. The library has no state, allocates nothing and does no
+//! input or output.
+
+#![deny(missing_docs, unsafe_code, unsafe_op_in_unsafe_fn)]
+
+mod counters;
+pub mod inspect;
+mod job;
+#[allow(unsafe_code)]
+mod raw;
+mod refusal;
+mod status;
+
+pub use counters::{Counters, Line};
+pub use job::{Job, LogRun};
+pub use refusal::{Refusal, UnknownNumber};
+pub use status::Status;
+
+/// The most tasks that a plan may have.
+pub const MOST_TASKS: usize = 1024;
+
+/// The size of the longest plan that is accepted: no plan with more bytes is.
+pub const LONGEST_PLAN: usize = 5 + 3 * MOST_TASKS;
+
+/// The most workers that a job ever desires.
+pub const MOST_WORKERS: usize = 64;
+
+/// The least size of a buffer for the counters line. The line itself is shorter.
+pub const LINE_BUFFER: usize = 128;

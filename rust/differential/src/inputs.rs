@@ -1,0 +1,142 @@
+//! The inputs of a case, over the reference's generator: plans, logs, sheets, buffers.
+
+use reference::generator::damage::{damaged, damaged_twice, flipped};
+use reference::generator::graph::{graph, Shape};
+use reference::generator::logs::{blind_log, guided_log, style, Style};
+use reference::generator::plans::{sound_draft, wide_draft, Draft};
+use reference::generator::Random;
+
+use crate::pair::Reference;
+
+/// In quanta longer than this a log is kept short, since a held job has nothing to do in them.
+const LONG_QUANTUM: u32 = 1_000;
+const MOST_IN_LONG_QUANTA: usize = 2_000;
+
+/// A plan: sound (two of three), damaged, or noise.
+pub fn plan(random: &mut Random) -> Vec<u8> {
+    let draft = if random.chance(64) {
+        wide_draft(random)
+    } else {
+        sound_draft(random)
+    };
+    let aim = random.between(1, 10) as u8;
+    match random.below(24) {
+        0 | 1 => flipped(random, &draft),
+        2 | 3 => damaged_twice(random, &draft),
+        4..=6 => damaged(random, &draft, aim),
+        7 => {
+            let size = random.below(40);
+            random.bytes(size)
+        }
+        _ => draft.bytes(),
+    }
+}
+
+/// A sound plan with quanta of one tick, too large for a short log to finish it.
+pub fn marathon_plan(random: &mut Random) -> Vec<u8> {
+    let count = random.between(100, 400);
+    let mut draft = Draft::of_graph(&graph(random, Shape::Layered { width: 30 }, count));
+    draft.responsiveness = random.between(2, 7) as u64;
+    draft.utilization = random.between(1, 30) as u64;
+    draft.quantum_length = 1;
+    draft.bytes()
+}
+
+/// A log for a job: one that follows it (three of four), the same with some bytes changed, or one that does not look at it.
+pub fn log(random: &mut Random, job: &Reference) -> Vec<u8> {
+    let mut style = style(random);
+    if job.plan().quantum_length() > LONG_QUANTUM {
+        style.budget = style.budget.min(MOST_IN_LONG_QUANTA);
+    }
+    match random.below(16) {
+        0 => {
+            let size = random.below(400);
+            blind_log(random, size)
+        }
+        1..=3 => {
+            let log = guided_log(random, job.clone(), &style);
+            edited(random, log)
+        }
+        _ => guided_log(random, job.clone(), &style),
+    }
+}
+
+/// A short log that follows a job.
+pub fn short_log(random: &mut Random, job: &Reference) -> Vec<u8> {
+    let style = Style {
+        budget: random.below(300),
+        ..style(random)
+    };
+    guided_log(random, job.clone(), &style)
+}
+
+/// A log with up to four bytes changed, put in or taken out.
+fn edited(random: &mut Random, mut log: Vec<u8>) -> Vec<u8> {
+    for _ in 0..random.between(1, 4) {
+        let place = random.below(log.len() + 1);
+        let byte = random.next_u64() as u8;
+        match random.below(3) {
+            0 => log.insert(place, byte),
+            1 if place < log.len() => log[place] = byte,
+            _ if place < log.len() => drop(log.remove(place)),
+            _ => (),
+        }
+    }
+    log
+}
+
+/// A number of workers that no log has, or that is hardly ever accepted.
+pub fn odd_grant(random: &mut Random, job: &Reference) -> u64 {
+    let desire = job.desire() as u64;
+    let wraps = [desire + (1 << 8), desire + (1 << 16), desire + (1 << 32)];
+    let others = [65, 127, 128, 255, u64::MAX, u64::MAX - 1, 1 << 63];
+    let near = [desire + 1, random.next_u64()];
+    let all = [&wraps[..], &others[..], &near[..]].concat();
+    *random.pick(&all).unwrap_or(&u64::MAX)
+}
+
+/// Choices that no log has, or that are hardly ever accepted.
+pub fn odd_choices(random: &mut Random, job: &Reference) -> Vec<u8> {
+    let allotment = job.allotment();
+    let sizes = [
+        0,
+        64,
+        65,
+        128,
+        1000,
+        allotment + 1,
+        allotment + 256,
+        allotment + 65_536,
+    ];
+    let size = *random.pick(&sizes).unwrap_or(&0);
+    let byte = *random.pick(&[0, 0, 63, 64, 255]).unwrap_or(&0);
+    vec![byte; size]
+}
+
+/// A label sheet of none to six lines, empty and long ones too; at times its last stretch is not ended.
+pub fn sheet(random: &mut Random) -> Vec<u8> {
+    let mut sheet = Vec::new();
+    for _ in 0..random.below(7) {
+        let size = *random.pick(&[0, 1, 7, 30, 300]).unwrap_or(&0);
+        let words = random.bytes(size);
+        sheet.extend(words.into_iter().filter(|&byte| byte != b'\n'));
+        sheet.push(b'\n');
+    }
+    if random.chance(80) {
+        sheet.pop();
+    }
+    sheet
+}
+
+/// A buffer for the counters line, with random bytes in it.
+pub fn buffer(random: &mut Random) -> Vec<u8> {
+    let sizes = [0, 1, 20, 127, 128, 128, 129, 160, 1000];
+    let size = *random.pick(&sizes).unwrap_or(&128);
+    random.bytes(size)
+}
+
+/// A count of refused calls with any number of digits.
+pub fn refused_count(random: &mut Random) -> u64 {
+    let narrow = random.below(64);
+    random.next_u64() >> narrow
+}

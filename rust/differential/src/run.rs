@@ -1,0 +1,75 @@
+//! The cases of a seed, one after the other.
+
+use std::time::Instant;
+
+use reference::generator::edges::edge_plans;
+use reference::generator::logs::marathon_log;
+use reference::generator::Random;
+
+use crate::accept::accept;
+use crate::difference::{Difference, Found};
+use crate::inputs;
+use crate::options::Options;
+use crate::totals::Totals;
+use crate::walk::Walk;
+
+/// Runs cases until the calls or the time are spent, or something differs.
+pub fn run(options: &Options, totals: &mut Totals) -> Result<(), Found> {
+    if let Some(case) = options.case {
+        return run_case(options.seed, case, totals);
+    }
+    let start = Instant::now();
+    let mut case = 0;
+    while totals.calls < options.calls && start.elapsed() < options.time {
+        run_case(options.seed, case, totals)?;
+        case += 1;
+    }
+    Ok(())
+}
+
+/// A case has its own random numbers, from the seed and the case's number.
+fn run_case(seed: u64, case: u64, totals: &mut Totals) -> Result<(), Found> {
+    let calls = totals.calls;
+    let start = Random::new(seed).next_u64() ^ Random::new(!case).next_u64();
+    let ran = try_case(&mut Random::new(start), case, totals);
+    totals.cases += 1;
+    ran.map_err(|difference| Found {
+        case,
+        call: totals.calls - calls,
+        difference,
+    })
+}
+
+/// Case 0 has a plan for more quanta than a job may have, the next cases have those at the edge of each question, all others any.
+fn plan(random: &mut Random, case: u64) -> Vec<u8> {
+    if case == 0 {
+        return inputs::marathon_plan(random);
+    }
+    let place = usize::try_from(case - 1).unwrap_or(usize::MAX);
+    let edge = edge_plans().into_iter().nth(place);
+    edge.unwrap_or_else(|| inputs::plan(random))
+}
+
+/// A plan and, where it is accepted, a log, which at times is run whole too.
+fn try_case(random: &mut Random, case: u64, totals: &mut Totals) -> Result<(), Difference> {
+    let plan = plan(random, case);
+    let pair = match accept(random, &plan, totals)? {
+        Some(pair) => pair,
+        None => return Ok(()),
+    };
+    let log = match case {
+        0 => marathon_log(random, pair.reference.clone()),
+        _ => inputs::log(random, &pair.reference),
+    };
+    let mut fresh = pair.clone();
+    let mut walk = Walk {
+        pair,
+        random,
+        totals,
+    };
+    walk.follow(&log)?;
+    if random.chance(64) {
+        fresh.run_log(&log, totals)?;
+    }
+    Ok(())
+}

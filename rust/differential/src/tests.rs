@@ -1,0 +1,249 @@
+//! The comparison finds what differs: here the two sides are given different plans or calls on purpose.
+
+use std::time::Duration;
+
+use reference::generator::plans::{sound_draft, Draft};
+use reference::generator::Random;
+
+use crate::accept::fresh;
+use crate::compare::{self, Part};
+use crate::difference::Difference;
+use crate::inputs;
+use crate::options::Options;
+use crate::pair::{Call, Pair, Proved, Reference};
+use crate::run::run;
+use crate::totals::Totals;
+use crate::walk::Walk;
+
+/// Jobs of two plans.
+fn pair(plan: &Draft, other: &Draft) -> Pair {
+    let proved = Proved::accept(&plan.bytes()).expect("an accepted plan");
+    let reference = Reference::accept(&other.bytes()).expect("an accepted plan");
+    Pair::new(proved, reference)
+}
+
+/// Document 01's example 7, with L = 1.
+fn fork() -> Draft {
+    let tasks: [&[u16]; 7] = [&[1, 2], &[3, 4], &[5], &[5], &[6], &[6], &[]];
+    let mut draft = Draft::of_graph(&tasks.iter().map(|list| list.to_vec()).collect());
+    draft.quantum_length = 1;
+    draft
+}
+
+/// The same with the fields of a task turned around.
+fn turned(mut draft: Draft, task: usize) -> Draft {
+    let fields = &mut draft.tasks[task];
+    std::mem::swap(&mut fields.first, &mut fields.second);
+    draft
+}
+
+/// The same with another L.
+fn with_length(mut draft: Draft, length: u64) -> Draft {
+    draft.quantum_length = length;
+    draft
+}
+
+/// In what the two jobs differ after a log each.
+fn part_after(mut pair: Pair, log: &[u8], reference_log: &[u8]) -> Option<Part> {
+    let _ = pair.proved.run_log(log);
+    let _ = reference::run_log(&mut pair.reference, reference_log);
+    compare::states(&pair.proved, &pair.reference)
+}
+
+#[test]
+fn other_calls_are_found() {
+    let part = |log, other| part_after(pair(&fork(), &fork()), log, other);
+    let steal = [1, 0x81, 0, 2, 0x82, 0, 0];
+    let vain = [1, 0x81, 0, 2, 0x82, 0, 1];
+    assert_eq!(part(&steal, &steal), None);
+    assert_eq!(part(&[0], &[]), Some("ticks of the open quantum"));
+    assert_eq!(part(&[1], &[0]), Some("allotment"));
+    assert_eq!(part(&[0, 0x80], &[]), Some("quanta begun"));
+    assert_eq!(part(&[1, 0x81, 0], &[0, 0x80]), Some("desire"));
+    assert_eq!(part(&steal, &vain), Some("successful steals"));
+}
+
+#[test]
+fn other_deques_are_found() {
+    for length in [1, 9] {
+        let plan = with_length(fork(), length);
+        let other = turned(plan.clone(), 0);
+        let part = |log: &[u8]| part_after(pair(&plan, &other), log, log);
+        assert_eq!(part(&[1]), None);
+        assert_eq!(part(&[1, 0x81, 0]), Some("deques"));
+    }
+    let other = turned(fork(), 0);
+    let part = |log: &[u8]| part_after(pair(&fork(), &other), log, log);
+    assert_eq!(part(&[1, 0x81, 0, 0]), Some("muggable deques"));
+    assert_eq!(part(&[1, 0x81, 0, 1, 0x81, 0]), Some("worked tasks"));
+}
+
+#[test]
+fn other_plans_are_found() {
+    type Change = fn(&mut Draft);
+    let changes: [(Part, Change); 5] = [
+        ("R", |draft| draft.responsiveness = 3),
+        ("D", |draft| draft.utilization = 81),
+        ("L", |draft| draft.quantum_length = 65_535),
+        ("N", |draft| {
+            *draft = with_length(Draft::of_graph(&vec![vec![1], vec![]]), 1)
+        }),
+        ("successors", |draft| *draft = turned(fork(), 1)),
+    ];
+    for (part, change) in changes {
+        let mut other = fork();
+        change(&mut other);
+        let found = fresh(pair(&fork(), &other), &mut Totals::default());
+        assert_eq!(found.err().map(|difference| difference.part), Some(part));
+    }
+    assert!(fresh(pair(&fork(), &fork()), &mut Totals::default()).is_ok());
+}
+
+/// Walks a generated log with a reference whose plan has one task's fields turned around, or none.
+fn walked(seed: u64, turn: bool) -> Option<Result<(), Difference>> {
+    let random = &mut Random::new(seed);
+    let draft = sound_draft(random);
+    let forks: Vec<usize> = (0..draft.tasks.len())
+        .filter(|&t| draft.tasks[t].count == 2)
+        .collect();
+    let &task = random.pick(&forks)?;
+    let other = if turn {
+        turned(draft.clone(), task)
+    } else {
+        draft.clone()
+    };
+    let pair = pair(&draft, &other);
+    let log = inputs::log(random, &pair.reference);
+    let totals = &mut Totals::default();
+    Some(
+        Walk {
+            pair,
+            random,
+            totals,
+        }
+        .follow(&log),
+    )
+}
+
+#[test]
+fn one_turned_task_is_found_on_the_way() {
+    let found = |turn| {
+        (0..200)
+            .filter_map(move |seed| walked(seed, turn))
+            .filter(Result::is_err)
+            .count()
+    };
+    assert_eq!(found(false), 0);
+    // Not in all: some logs never work the task, or meet no time at which the order matters.
+    assert!(found(true) > 60, "{} found", found(true));
+}
+
+#[test]
+fn a_moved_job_is_found_after_a_refused_call() {
+    let mut pair = pair(&fork(), &fork());
+    let totals = &mut Totals::default();
+    assert!(pair.call(Call::Grant(1), totals).is_ok());
+    assert!(pair.reference.tick(&[0]).is_ok() && pair.reference.grant(1).is_ok());
+    let found = pair
+        .call(Call::Grant(1), totals)
+        .map_err(|difference| difference.part);
+    assert_eq!(found, Err("job after a refused call"));
+    let found = pair
+        .call(Call::Tick(&[0, 0]), totals)
+        .map_err(|difference| difference.part);
+    assert_eq!(found, Err("job after a refused call"));
+    assert!(pair.proved.tick(&[0]).is_ok());
+    let found = pair
+        .call(Call::Tick(&[0]), totals)
+        .map_err(|difference| difference.part);
+    assert_eq!(found, Err("answer"));
+}
+
+#[test]
+fn other_logs_lines_and_wordings_are_found() {
+    let mut pair = pair(&fork(), &fork());
+    assert!(pair.reference.grant(0).is_ok());
+    let totals = &mut Totals::default();
+    let found = pair
+        .clone()
+        .run_log(&[0], totals)
+        .map_err(|difference| difference.part);
+    assert_eq!(found, Err("log"));
+    assert!(pair.reference.tick(&[]).is_ok() && pair.reference.grant(1).is_ok());
+    let random = &mut Random::new(1);
+    let mut walk = Walk {
+        pair,
+        random,
+        totals,
+    };
+    let parts: Vec<Part> = (0..50)
+        .filter_map(|_| walk.show().err())
+        .map(|d| d.part)
+        .collect();
+    assert!(parts.contains(&"wording") && parts.contains(&"status"));
+    assert_eq!(parts.len(), 50);
+}
+
+fn options(calls: u64, seed: u64, case: Option<u64>) -> Options {
+    Options {
+        calls,
+        time: Duration::from_secs(600),
+        seed,
+        case,
+    }
+}
+
+#[test]
+fn a_run_reaches_every_refusal() {
+    let mut totals = Totals::default();
+    let ran = run(&options(250_000, 3, None), &mut totals);
+    assert!(
+        ran.is_ok(),
+        "{}",
+        ran.err().map_or(String::new(), |found| found.to_string())
+    );
+    assert!(totals.calls >= 250_000 && totals.states > totals.calls);
+    assert!(totals.refusals[1..].iter().all(|&count| count > 0));
+    assert!(totals.responsiveness[2..].iter().all(|&count| count > 0));
+    assert!(totals.ticks[0] > 0 && totals.ticks[64] > 0);
+}
+
+#[test]
+fn the_same_seed_gives_the_same_cases() {
+    let totals = |seed| {
+        let mut totals = Totals::default();
+        let ran = (1..60).all(|case| run(&options(0, seed, Some(case)), &mut totals).is_ok());
+        (ran, totals)
+    };
+    assert_eq!(totals(8), totals(8));
+    assert!(totals(8).0 && totals(8).1 != totals(9).1);
+}
+
+#[test]
+fn arguments() {
+    let read = |text: &str| {
+        Options::read(
+            &text
+                .split_whitespace()
+                .map(String::from)
+                .collect::<Vec<_>>(),
+        )
+    };
+    let run = read("--calls 7 --seed 9 --case 3").expect("options");
+    assert_eq!((run.calls, run.seed, run.case), (7, 9, Some(3)));
+    assert_eq!(
+        read("--seconds 2").map(|run| (run.calls, run.time)),
+        Ok((u64::MAX, Duration::from_secs(2)))
+    );
+    assert_eq!(read("").map(|run| run.seed), Ok(1));
+    for wrong in [
+        "--calls",
+        "--calls -1",
+        "--calls x",
+        "--other 1",
+        "7",
+        "--seed 1 --calls",
+    ] {
+        assert!(read(wrong).is_err(), "{wrong}");
+    }
+}

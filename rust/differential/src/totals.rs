@@ -1,0 +1,162 @@
+//! What a run has done.
+
+use std::fmt;
+
+use reference::Entries;
+
+use crate::pair::{Call, Reference};
+
+/// Counts of a run.
+#[derive(Clone, Debug, PartialEq, Eq)]
+pub struct Totals {
+    pub cases: u64,
+    /// Plans that were accepted.
+    pub plans: u64,
+    /// Plans that took the place of a used job.
+    pub replacements: u64,
+    /// Accepted plans by R.
+    pub responsiveness: [u64; 8],
+    /// Refusals by number; place 0 is not used.
+    pub refusals: [u64; 21],
+    /// Grants and ticks after each of which the whole states were compared.
+    pub calls: u64,
+    /// Those of them that were refused.
+    pub refused_calls: u64,
+    /// Accepted ticks by the number of choices.
+    pub ticks: [u64; 65],
+    /// Work, mug and steal cycles and successful steals of the jobs that logs moved call by call.
+    pub cycles: [u64; 4],
+    /// Logs run whole.
+    pub logs: u64,
+    /// The calls in them; the states were compared at the log's end.
+    pub log_calls: u64,
+    /// Comparisons of whole states.
+    pub states: u64,
+    /// Copies that took other calls than their original.
+    pub branches: u64,
+    pub wordings: u64,
+    pub lines: u64,
+}
+
+impl Default for Totals {
+    fn default() -> Totals {
+        Totals {
+            cases: 0,
+            plans: 0,
+            replacements: 0,
+            responsiveness: [0; 8],
+            refusals: [0; 21],
+            calls: 0,
+            refused_calls: 0,
+            ticks: [0; 65],
+            cycles: [0; 4],
+            logs: 0,
+            log_calls: 0,
+            states: 0,
+            branches: 0,
+            wordings: 0,
+            lines: 0,
+        }
+    }
+}
+
+/// Adds one at a place, if it is there.
+fn add(counts: &mut [u64], place: usize) {
+    if let Some(count) = counts.get_mut(place) {
+        *count += 1;
+    }
+}
+
+impl Totals {
+    /// Counts a refusal; 0 is none.
+    pub fn count_refusal(&mut self, number: u8) {
+        if number != 0 {
+            add(&mut self.refusals, usize::from(number));
+        }
+    }
+
+    /// Counts an accepted plan.
+    pub fn count_plan(&mut self, responsiveness: usize) {
+        self.plans += 1;
+        add(&mut self.responsiveness, responsiveness);
+    }
+
+    /// Counts a call and its answer.
+    pub fn count_call(&mut self, call: Call, number: u8) {
+        self.calls += 1;
+        self.refused_calls += u64::from(number != 0);
+        self.count_refusal(number);
+        if let (Call::Tick(choices), 0) = (call, number) {
+            add(&mut self.ticks, choices.len());
+        }
+    }
+
+    /// Counts the cycles of a job at the end of its way.
+    pub fn count_cycles(&mut self, job: &Reference) {
+        let counts = [
+            job.work_cycles(),
+            job.mug_cycles(),
+            job.steal_cycles(),
+            job.successful_steals(),
+        ];
+        for (total, count) in self.cycles.iter_mut().zip(counts) {
+            *total += count;
+        }
+    }
+
+    /// Counts a log that was run whole and its answer.
+    pub fn count_log(&mut self, log: &[u8], number: u8) {
+        self.logs += 1;
+        self.log_calls += Entries::new(log).filter(|entry| entry.is_ok()).count() as u64;
+        self.count_refusal(number);
+    }
+}
+
+impl fmt::Display for Totals {
+    fn fmt(&self, out: &mut fmt::Formatter<'_>) -> fmt::Result {
+        let refused_plans: u64 = self.refusals[1..=10].iter().sum();
+        let ticks = |from: usize, to: usize| self.ticks[from..=to].iter().sum::<u64>();
+        writeln!(out, "{:>12}  cases", self.cases)?;
+        writeln!(
+            out,
+            "{:>12}  plans accepted, by R from 2 to 7: {:?}",
+            self.plans,
+            &self.responsiveness[2..]
+        )?;
+        writeln!(out, "{refused_plans:>12}  plans refused")?;
+        writeln!(
+            out,
+            "{:>12}  plans that took the place of a used job",
+            self.replacements
+        )?;
+        for (number, count) in self.refusals.iter().enumerate().skip(1) {
+            writeln!(out, "{count:>12}  refusals {number}")?;
+        }
+        writeln!(out, "{:>12}  wordings compared", self.wordings)?;
+        writeln!(out, "{:>12}  counters lines compared", self.lines)?;
+        writeln!(
+            out,
+            "{:>12}  logs run whole, with {} calls",
+            self.logs, self.log_calls
+        )?;
+        writeln!(out, "{:>12}  copies that took other calls", self.branches)?;
+        writeln!(out, "{:>12}  comparisons of whole states", self.states)?;
+        let [work, mug, steal, successes] = self.cycles;
+        writeln!(out, "{work:>12}  work cycles, {mug} mug cycles, {steal} steal cycles, {successes} with success")?;
+        writeln!(out, "{:>12}  accepted ticks of no worker", ticks(0, 0))?;
+        writeln!(out, "{:>12}  of 1 to 8 workers", ticks(1, 8))?;
+        writeln!(out, "{:>12}  of 9 to 32 workers", ticks(9, 32))?;
+        writeln!(out, "{:>12}  of 33 to 64 workers", ticks(33, 64))?;
+        writeln!(out, "{:>12}  calls refused", self.refused_calls)?;
+        writeln!(
+            out,
+            "{:>12}  calls accepted",
+            self.calls - self.refused_calls
+        )?;
+        write!(
+            out,
+            "{:>12}  calls, each with whole states compared",
+            self.calls
+        )
+    }
+}

@@ -1,0 +1,251 @@
+//! What a job's memory holds, for consoles and tests: the deques, the worked tasks, the open quantum, the plan.
+//!
+//! This reads the memory in plain Rust, by the view of `crates/memory/specs/Held.antt` and `crates/deque/specs/View.antt`, over which
+//! the library's promises are stated. It is written after these definitions and not itself proved.
+//!
+//! ```
+//! use jirvaldo::{inspect::State, Job};
+//!
+//! let plan = [0x15, 0x40, 0x00, 0x08, 0x03, 0x80, 0x08, 0x02, 0x40, 0x18, 0x00, 0x40, 0x18, 0x00, 0, 0, 0];
+//! let mut job = Job::accept(&plan)?;
+//! job.grant(1)?;
+//! job.tick(&[0])?;
+//! let state = State::of(&job);
+//! assert_eq!(state.worked, [true, false, false, false]);
+//! assert_eq!(state.deques, [vec![1, 2]]);
+//! assert_eq!(state.open_ticks, Some(1));
+//! assert_eq!(state.plan.successors, [vec![1, 2], vec![3], vec![3], vec![]]);
+//! # Ok::<(), jirvaldo::Refusal>(())
+//! ```
+
+#![forbid(unsafe_code)]
+
+use crate::raw::Memory;
+use crate::{Job, MOST_WORKERS};
+
+/// What `pending` holds of a worked task.
+const WORKED: u8 = 3;
+
+/// A look into a job, which copies nothing. Tasks and workers are numbered from 0; of a number past the last nothing is shown: no
+/// successors, an empty deque, not worked.
+#[derive(Clone, Copy)]
+pub struct View<'a> {
+    memory: &'a Memory,
+}
+
+impl<'a> View<'a> {
+    /// A look into this job.
+    pub fn of(job: &'a Job) -> View<'a> {
+        View {
+            memory: job.memory(),
+        }
+    }
+
+    fn word(self, place: usize) -> u64 {
+        self.memory.words()[place]
+    }
+}
+
+/// The plan.
+impl<'a> View<'a> {
+    /// The number of tasks (N).
+    pub fn tasks(self) -> usize {
+        usize::from(self.word(0) as u16)
+    }
+
+    /// The responsiveness (R), 2 to 7.
+    pub fn responsiveness(self) -> u8 {
+        self.word(10) as u8
+    }
+
+    /// The utilization in percent (D), 1 to 100.
+    pub fn utilization(self) -> u8 {
+        self.word(11) as u8
+    }
+
+    /// The quantum length in ticks (L), 1 to 65,535.
+    pub fn quantum_length(self) -> u16 {
+        self.word(12) as u16
+    }
+
+    /// The successors of a task, none, one or two, in the order of the plan's fields.
+    pub fn successors(self, task: usize) -> impl Iterator<Item = u16> + 'a {
+        let fields = [self.memory.first(), self.memory.second()];
+        let used = fields.into_iter().filter_map(move |field| field.get(task));
+        used.copied().take_while(|&successor| successor != 0)
+    }
+}
+
+/// The state.
+impl<'a> View<'a> {
+    /// Whether a task is worked.
+    pub fn is_worked(self, task: usize) -> bool {
+        task < self.tasks() && self.memory.pending().get(task) == Some(&WORKED)
+    }
+
+    /// Of each task, in number order: it is worked.
+    pub fn worked(self) -> impl Iterator<Item = bool> + 'a {
+        let pending = self.memory.pending().iter().take(self.tasks());
+        pending.map(|&pending| pending == WORKED)
+    }
+
+    /// The allotment: how many workers are granted.
+    pub fn allotment(self) -> usize {
+        usize::from(self.word(1) as u8)
+    }
+
+    /// The deque of a worker, from its front to its back.
+    pub fn deque(self, worker: usize) -> impl Iterator<Item = u16> + 'a {
+        self.deque_at((worker < self.allotment()).then_some(worker))
+    }
+
+    /// How many muggable deques wait.
+    pub fn muggable_deques(self) -> usize {
+        self.word(9) as usize
+    }
+
+    /// A muggable deque, from its front to its back; 0 is the oldest.
+    pub fn muggable_deque(self, age: usize) -> impl Iterator<Item = u16> + 'a {
+        let ring = (self.word(8) as usize).wrapping_add(age) % MOST_WORKERS;
+        self.deque_at((age < self.muggable_deques()).then_some(MOST_WORKERS + ring))
+    }
+
+    /// The deque at a place of `ends`: its front there, its size 128 further on. What its links hold past the size is not read.
+    fn deque_at(self, place: Option<usize>) -> impl Iterator<Item = u16> + 'a {
+        let at = |list: &[u16], place: usize| list.get(place).copied().unwrap_or(0);
+        let (next, ends) = (self.memory.next(), self.memory.ends());
+        let size = place.map_or(0, |place| at(ends, place + 2 * MOST_WORKERS));
+        let front = place.map(|place| at(ends, place));
+        let links = std::iter::successors(front, move |&task| Some(at(next, task.into())));
+        links.take(size.into())
+    }
+
+    /// The desire: how many workers the job wants next.
+    pub fn desire(self) -> u8 {
+        self.word(13) as u8
+    }
+
+    /// Whether any worker was ever granted.
+    pub fn started(self) -> bool {
+        self.word(14) != 0
+    }
+
+    /// The ticks that the open quantum has had; `None` where none is open. A finished job keeps its last quantum open.
+    pub fn open_ticks(self) -> Option<u16> {
+        (self.word(15) != 0).then_some(self.word(16) as u16)
+    }
+
+    /// Quanta begun, those of 0 workers too.
+    pub fn quanta_begun(self) -> u16 {
+        self.word(17) as u16
+    }
+
+    /// Work cycles.
+    pub fn work(self) -> u64 {
+        self.word(3)
+    }
+
+    /// Mug cycles.
+    pub fn mug(self) -> u64 {
+        self.word(4)
+    }
+
+    /// Steal cycles.
+    pub fn steal(self) -> u64 {
+        self.word(5)
+    }
+
+    /// Steal cycles that took a task.
+    pub fn successes(self) -> u64 {
+        self.word(6)
+    }
+
+    /// Work and mug cycles of the open quantum, or of the last one where none is open.
+    pub fn usage(self) -> u64 {
+        self.word(7)
+    }
+}
+
+/// A plan, copied out of a job.
+#[derive(Clone, Debug, PartialEq, Eq)]
+pub struct Plan {
+    /// The responsiveness (R).
+    pub responsiveness: u8,
+    /// The utilization in percent (D).
+    pub utilization: u8,
+    /// The quantum length in ticks (L).
+    pub quantum_length: u16,
+    /// The successors of each task, in the order of the plan's fields.
+    pub successors: Vec<Vec<u16>>,
+}
+
+/// All that a job shows, copied out of it. Two jobs with equal states answer every later call alike.
+#[derive(Clone, Debug, PartialEq, Eq)]
+pub struct State {
+    /// The job's plan.
+    pub plan: Plan,
+    /// Of each task, in number order: it is worked.
+    pub worked: Vec<bool>,
+    /// The deques of the granted workers, each from its front to its back.
+    pub deques: Vec<Vec<u16>>,
+    /// The muggable deques, oldest first.
+    pub muggable: Vec<Vec<u16>>,
+    /// The desire.
+    pub desire: u8,
+    /// The allotment.
+    pub allotment: usize,
+    /// Whether any worker was ever granted.
+    pub started: bool,
+    /// The ticks that the open quantum has had; `None` where none is open.
+    pub open_ticks: Option<u16>,
+    /// Quanta begun.
+    pub quanta_begun: u16,
+    /// Work cycles.
+    pub work: u64,
+    /// Mug cycles.
+    pub mug: u64,
+    /// Steal cycles.
+    pub steal: u64,
+    /// Steal cycles that took a task.
+    pub successes: u64,
+    /// Work and mug cycles of the open quantum, or of the last one where none is open.
+    pub usage: u64,
+}
+
+impl Plan {
+    /// The plan of a job.
+    pub fn of(job: &Job) -> Plan {
+        let view = View::of(job);
+        let tasks = 0..view.tasks();
+        Plan {
+            responsiveness: view.responsiveness(),
+            utilization: view.utilization(),
+            quantum_length: view.quantum_length(),
+            successors: tasks.map(|task| view.successors(task).collect()).collect(),
+        }
+    }
+}
+
+impl State {
+    /// The state of a job.
+    pub fn of(job: &Job) -> State {
+        let view = View::of(job);
+        let (workers, ages) = (0..view.allotment(), 0..view.muggable_deques());
+        State {
+            plan: Plan::of(job),
+            worked: view.worked().collect(),
+            deques: workers.map(|w| view.deque(w).collect()).collect(),
+            muggable: ages.map(|a| view.muggable_deque(a).collect()).collect(),
+            desire: view.desire(),
+            allotment: view.allotment(),
+            started: view.started(),
+            open_ticks: view.open_ticks(),
+            quanta_begun: view.quanta_begun(),
+            work: view.work(),
+            mug: view.mug(),
+            steal: view.steal(),
+            successes: view.successes(),
+            usage: view.usage(),
+        }
+    }
+}

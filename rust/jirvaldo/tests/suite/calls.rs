@@ -1,0 +1,140 @@
+//! Grants, ticks and logs: refusals 11 to 18, and the edges of their arguments.
+
+use jirvaldo::inspect::State;
+use jirvaldo::{Job, Refusal};
+
+use super::{chain, hex, job, plan, plan_a};
+
+/// The call is refused with this number and leaves the state as it was.
+fn refused(job: &mut Job, number: u8, call: impl FnOnce(&mut Job) -> Result<(), Refusal>) {
+    let before = State::of(job);
+    assert_eq!(call(job).map_err(Refusal::number), Err(number));
+    assert_eq!(State::of(job), before);
+}
+
+#[test]
+fn every_call_refusal() {
+    let mut job = plan_a();
+    refused(&mut job, 15, |j| j.tick(&[0]));
+    refused(&mut job, 14, |j| j.grant(2));
+    assert_eq!(job.grant(1), Ok(()));
+    refused(&mut job, 12, |j| j.grant(u64::MAX));
+    refused(&mut job, 16, |j| j.tick(&[]));
+    refused(&mut job, 17, |j| j.tick(&[1]));
+    let run = job.run_log(&hex("81 00 81 00 01 81 00 81 00"));
+    assert_eq!((run.refused_calls, run.end), (0, Ok(())));
+    refused(&mut job, 11, |j| j.grant(u64::MAX));
+    refused(&mut job, 11, |j| j.tick(&[]));
+}
+
+#[test]
+fn no_more_than_65535_quanta() {
+    let mut job = job(&chain(2));
+    for _ in 0..65_535 {
+        assert_eq!(job.grant(0), Ok(()));
+        assert_eq!(job.tick(&[]), Ok(()));
+    }
+    refused(&mut job, 13, |j| j.grant(0));
+    refused(&mut job, 13, |j| j.grant(u64::MAX));
+    refused(&mut job, 15, |j| j.tick(&[]));
+    assert_eq!(State::of(&job).quanta_begun, 65_535);
+}
+
+#[test]
+fn grants_of_any_number() {
+    let mut job = plan_a();
+    for workers in [
+        2,
+        64,
+        65,
+        127,
+        255,
+        256,
+        257,
+        65_536,
+        1 << 32,
+        (1 << 32) + 1,
+        u64::MAX,
+    ] {
+        refused(&mut job, 14, |j| j.grant(workers));
+    }
+    assert_eq!(job.grant(0), Ok(()));
+    assert_eq!((job.allotment(), job.desire()), (0, 1));
+}
+
+/// A tree of forks, 511 tasks, then a chain of joins: wide enough that the desire reaches 64.
+fn wide() -> Job {
+    let mut tasks: Vec<Vec<u32>> = (0..255).map(|t| vec![2 * t + 1, 2 * t + 2]).collect();
+    tasks.push(vec![511]);
+    tasks.extend((1..256).map(|leaf| vec![510 + leaf]));
+    tasks.extend((0..254).map(|joined| vec![512 + joined]));
+    tasks.push(vec![]);
+    let lists: Vec<&[u32]> = tasks.iter().map(Vec::as_slice).collect();
+    job(&plan(2, 1, 1, &lists))
+}
+
+#[test]
+fn ticks_of_any_size() {
+    let mut job = wide();
+    while job.desire() < 64 {
+        let workers = job.desire();
+        assert_eq!(job.grant(workers), Ok(()));
+        assert_eq!(job.tick(&vec![0; workers as usize]), Ok(()));
+    }
+    refused(&mut job, 14, |j| j.grant(65));
+    assert_eq!(job.grant(64), Ok(()));
+    let million = vec![0; 1 << 20];
+    for size in [0, 1, 63, 65, 64 + 256, 64 + 65_536, 1 << 20] {
+        refused(&mut job, 16, |j| j.tick(&million[..size]));
+    }
+    let mut choices = [63; 64];
+    choices[63] = 64;
+    refused(&mut job, 17, |j| j.tick(&choices));
+    choices[63] = 63;
+    assert_eq!(job.tick(&choices), Ok(()));
+    assert_eq!(State::of(&job).allotment, 64);
+    assert_eq!(job.grant(0), Ok(()));
+    refused(&mut job, 16, |j| j.tick(&million));
+    assert_eq!(job.tick(&[]), Ok(()));
+}
+
+#[test]
+fn logs_empty_and_broken() {
+    let mut job = plan_a();
+    let run = job.run_log(&[]);
+    assert_eq!((run.refused_calls, run.end), (0, Ok(())));
+    let run = job.run_log(&hex("02 01 82 00"));
+    assert_eq!((run.refused_calls, run.end), (1, Err(Refusal::BrokenEntry)));
+    assert_eq!(job.allotment(), 1);
+    // A refused tick takes its choices with it.
+    let run = job.run_log(&hex("82 00 00 81 00"));
+    assert_eq!((run.refused_calls, run.end), (1, Ok(())));
+    assert_eq!(job.counters(0).work, 1);
+    let run = job.run_log(&[0; 1 << 20]);
+    assert_eq!((run.refused_calls, run.end), (1 << 20, Ok(())));
+}
+
+#[test]
+fn clones_go_on_apart() {
+    let mut job = plan_a();
+    assert_eq!(job.grant(1), Ok(()));
+    let mut copy = job.clone();
+    assert_eq!(State::of(&copy), State::of(&job));
+    assert_eq!(copy.tick(&[0]), Ok(()));
+    assert_eq!((job.counters(0).worked, copy.counters(0).worked), (0, 1));
+}
+
+#[test]
+fn jobs_cross_threads() {
+    fn crosses<T: Send + Sync + 'static>() {}
+    crosses::<Job>();
+    let log = hex("01 81 00 81 00 02 82 00 00 82 00 00");
+    let moved = |mut job: Job, log: Vec<u8>| move || (job.run_log(&log), job);
+    let threads: Vec<_> = (0..4)
+        .map(|_| std::thread::spawn(moved(plan_a(), log.clone())))
+        .collect();
+    for thread in threads {
+        let (run, job) = thread.join().expect("a thread that ends");
+        assert_eq!((run.refused_calls, job.is_finished()), (0, true));
+    }
+}

@@ -1,0 +1,59 @@
+//! Document 01's examples 1 to 4, 7 and 9.
+
+use jirvaldo::inspect::State;
+use jirvaldo::{Job, Refusal, Status};
+
+use super::{hex, job, plan, plan_a, ONE_TASK};
+
+/// A job of Plan A after a log that has no refusal.
+fn after(log: &str) -> Job {
+    let mut job = plan_a();
+    let run = job.run_log(&hex(log));
+    assert_eq!((run.refused_calls, run.end), (0, Ok(())));
+    job
+}
+
+#[test]
+fn example_1_two_workers() {
+    let job = after("01 81 00 81 00 02 82 00 00 82 00 00");
+    assert_eq!(&*job.line(0), "3 4 4 2 2 4 0 1 0 0");
+}
+
+#[test]
+fn example_2_withdrawn_and_mugged() {
+    let job = after("01 81 00 81 00 00 80 80 01 81 00 81 00 01 81 00");
+    let counters = job.counters(0);
+    assert_eq!((counters.work, counters.mug, counters.steal), (4, 1, 0));
+    assert_eq!((counters.status, counters.desire), (Status::Finished, 2));
+}
+
+#[test]
+fn example_3_empty_log() {
+    assert_eq!(&*after("").line(0), "0 0 4 1 0 0 0 0 0 0");
+}
+
+#[test]
+fn example_4_first_grant() {
+    let mut job = plan_a();
+    assert_eq!(job.grant(2), Err(Refusal::AboveDesire));
+    assert_eq!(job.grant(0), Ok(()));
+    assert_eq!(job.status(), Status::Fresh);
+}
+
+#[test]
+fn example_7_thief_takes_the_back() {
+    let tasks: [&[u32]; 7] = [&[1, 2], &[3, 4], &[5], &[5], &[6], &[6], &[]];
+    let mut job = job(&plan(2, 80, 1, &tasks));
+    assert_eq!(job.run_log(&hex("01 81 00 02")).refused_calls, 0);
+    assert_eq!(State::of(&job).deques, [vec![1, 2], vec![]]);
+    assert_eq!(job.tick(&[0, 0]), Ok(()));
+    assert_eq!(State::of(&job).deques, [vec![3, 4], vec![2]]);
+    assert_eq!(job.counters(0).successes, 1);
+}
+
+#[test]
+fn example_9_one_task() {
+    let mut job = job(&hex(ONE_TASK));
+    assert_eq!((job.grant(1), job.tick(&[0])), (Ok(()), Ok(())));
+    assert!(job.is_finished());
+}

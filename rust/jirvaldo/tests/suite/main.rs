@@ -1,0 +1,59 @@
+//! The tests of the crate's public part, in one program.
+
+mod calls;
+mod examples;
+mod inspected;
+mod plans;
+mod shows;
+
+use jirvaldo::{Job, Refusal};
+
+/// Document 01's Plan A.
+const PLAN_A: &str = "15 40 00 08 03  80 08 02  40 18 00  40 18 00  00 00 00";
+
+/// A plan of one task.
+const ONE_TASK: &str = "15 40 00 08 00  00 00 00";
+
+/// Bytes from hexadecimal; blanks are passed over.
+fn hex(text: &str) -> Vec<u8> {
+    let digits: Vec<u32> = text.chars().filter_map(|c| c.to_digit(16)).collect();
+    let pairs = digits.chunks_exact(2);
+    pairs.map(|pair| (pair[0] * 16 + pair[1]) as u8).collect()
+}
+
+/// A plan's bytes from its fields and the successors of each task.
+fn plan(responsiveness: u64, utilization: u64, length: u64, tasks: &[&[u32]]) -> Vec<u8> {
+    let count = tasks.len() as u64 - 1;
+    let header = 1 << 36 | responsiveness << 33 | utilization << 26 | length << 10 | count & 1023;
+    let mut bytes = header.to_be_bytes()[3..].to_vec();
+    for successors in tasks {
+        let field = |place: usize| successors.get(place).copied().unwrap_or(0);
+        let word = (successors.len() as u32) << 22 | field(0) << 11 | field(1);
+        bytes.extend_from_slice(&word.to_be_bytes()[1..]);
+    }
+    bytes
+}
+
+/// A chain of that many tasks, with L = 1.
+fn chain(count: u32) -> Vec<u8> {
+    let after: Vec<Vec<u32>> = (1..=count)
+        .map(|t| if t < count { vec![t] } else { vec![] })
+        .collect();
+    let tasks: Vec<&[u32]> = after.iter().map(Vec::as_slice).collect();
+    plan(2, 80, 1, &tasks)
+}
+
+/// The fresh job of an accepted plan.
+fn job(plan: &[u8]) -> Job {
+    Job::accept(plan).expect("an accepted plan")
+}
+
+/// A fresh job of Plan A.
+fn plan_a() -> Job {
+    job(&hex(PLAN_A))
+}
+
+/// The number of a plan's refusal, or 0.
+fn number(plan: &[u8]) -> u8 {
+    Job::accept(plan).map_or_else(Refusal::number, |_| 0)
+}
