@@ -22,7 +22,7 @@ static int line_is(const jirvaldo_job *job, uint64_t refused_calls, const char *
     memset(buffer, 0xAA, JIRVALDO_LINE_BUFFER);
     same = jirvaldo_line(job, refused_calls, buffer, JIRVALDO_LINE_BUFFER, &size) == 0 && size == length + 1 &&
         memcmp(buffer, expected, length) == 0 && buffer[length] == 10;
-    while (size < JIRVALDO_LINE_BUFFER) same = same && buffer[size++] == 0xAA;
+    for (; size < JIRVALDO_LINE_BUFFER; size++) same = same && buffer[size] == 0xAA;
     release(buffer, JIRVALDO_LINE_BUFFER);
     return same;
 }
@@ -145,9 +145,12 @@ static void test_plans(void)
         form_2, r_0, r_1, d_0, d_101, l_0, cut, longer, header_alone, most_and_a_byte, count_3, unused_first, unused_second, itself,
         past_the_last, twice, field_2047, no_predecessor, three_predecessors, loose_end};
     static const unsigned expected[] = {0, 0, 0, 0, 0, 0, 1, 1, 2, 2, 3, 3, 4, 4, 5, 6, 6, 6, 6, 7, 7, 7, 8, 8, 8, 8, 9, 9, 10};
+    jirvaldo_job *job = job_block();
     size_t i;
     CHECK(sizeof changes / sizeof changes[0] == sizeof expected / sizeof expected[0]);
     for (i = 0; i < sizeof expected / sizeof expected[0]; i++) check_plan_with(changes[i], expected[i]);
+    CHECK(jirvaldo_accept(job, NULL, 0) == JIRVALDO_PLAN_SHORT);
+    release_job(job);
 }
 
 static void refuses_grant(jirvaldo_job *job, uint64_t workers, unsigned expected)
@@ -537,7 +540,7 @@ static void test_whole_jobs(uint64_t *seed)
     CHECK(n.worked == size);
 }
 
-/* ---- threads: a job each, as one after the other */
+/* ---- threads: a job each, on a stack of 64 KiB, as one after the other */
 
 typedef struct whole_run {
     const plan_bytes *plan;
@@ -570,15 +573,18 @@ static void test_threads(void)
     static plan_bytes plans[THREADS];
     whole_run at_once[THREADS], one_by_one;
     pthread_t threads[THREADS];
+    pthread_attr_t small;
     unsigned i;
+    CHECK(pthread_attr_init(&small) == 0 && pthread_attr_setstacksize(&small, 65536) == 0);
     for (i = 0; i < THREADS; i++) {
         fork_join(&plans[i], 2 + i, 80, 3, 342 - i);
         at_once[i].plan = &plans[i];
         at_once[i].seed = i;
         at_once[i].job = job_block();
-        CHECK(pthread_create(&threads[i], NULL, run_whole, &at_once[i]) == 0);
+        CHECK(pthread_create(&threads[i], &small, run_whole, &at_once[i]) == 0);
     }
     for (i = 0; i < THREADS; i++) CHECK(pthread_join(threads[i], NULL) == 0);
+    CHECK(pthread_attr_destroy(&small) == 0);
     for (i = 0; i < THREADS; i++) {
         one_by_one.plan = &plans[i];
         one_by_one.seed = i;
