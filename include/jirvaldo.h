@@ -146,7 +146,7 @@ static inline unsigned jirvaldo_run_log(jirvaldo_job *job, const uint8_t *log, s
     uint64_t refusals = 0;
     unsigned answer = jirvaldo_core_run_log(job->first_, job->second_, job->pending_, job->next_, job->ends_, job->words_,
         size == 0 ? &none : log, size, &refusals);
-    if (refused_calls != NULL) *refused_calls = refusals;
+    if (refused_calls) *refused_calls = refusals;
     return answer;
 }
 
@@ -163,7 +163,7 @@ static inline unsigned jirvaldo_wording(const jirvaldo_job *job, const uint8_t *
     const uint8_t none = 0;
     size_t start = 0, count = 0;
     unsigned answer = jirvaldo_core_wording(job->words_, size == 0 ? &none : sheet, size, &start, &count);
-    if (part != NULL) {
+    if (part) {
         part->bytes = size == 0 ? sheet : sheet + start;
         part->size = count;
     }
@@ -197,7 +197,7 @@ static inline unsigned jirvaldo_line(const jirvaldo_job *job, uint64_t refused_c
     uint8_t none = 0;
     size_t count = 0;
     unsigned answer = jirvaldo_core_line(job->words_, refused_calls, size == 0 ? &none : buffer, size, &count);
-    if (line_size != NULL) *line_size = count;
+    if (line_size) *line_size = count;
     return answer;
 }
 
