@@ -1,0 +1,622 @@
+/* The test of the C interface: test ROUNDS, with that many rounds of each random check (1,000 without an argument). It stops at the first
+ * check that fails, and says how many passed otherwise. */
+#define _DEFAULT_SOURCE /* for mmap, in C99 */
+#include "jirvaldo.h"
+#include "lent.h"
+#include "plans.h"
+#include <pthread.h>
+
+/* ---- what a job shows */
+
+static int same_numbers(const jirvaldo_job *a, const jirvaldo_job *b)
+{
+    jirvaldo_numbers one = jirvaldo_counters(a, 7), other = jirvaldo_counters(b, 7);
+    return memcmp(&one, &other, sizeof one) == 0;
+}
+
+static int line_is(const jirvaldo_job *job, uint64_t refused_calls, const char *expected)
+{
+    size_t size = 0, length = strlen(expected);
+    uint8_t *buffer = block(JIRVALDO_LINE_BUFFER);
+    int same;
+    memset(buffer, 0xAA, JIRVALDO_LINE_BUFFER);
+    same = jirvaldo_line(job, refused_calls, buffer, JIRVALDO_LINE_BUFFER, &size) == 0 && size == length + 1 &&
+        memcmp(buffer, expected, length) == 0 && buffer[length] == 10;
+    for (; size < JIRVALDO_LINE_BUFFER; size++) same = same && buffer[size] == 0xAA;
+    release(buffer, JIRVALDO_LINE_BUFFER);
+    return same;
+}
+
+/* the line says the same numbers as jirvaldo_counters, and the status is the first of them */
+static void check_shown(const jirvaldo_job *job, uint64_t refused_calls)
+{
+    char text[256];
+    jirvaldo_numbers n = jirvaldo_counters(job, refused_calls);
+    sprintf(text, "%llu %llu %llu %llu %llu %llu %llu %llu %llu %llu", (unsigned long long)n.status, (unsigned long long)n.worked,
+        (unsigned long long)n.tasks, (unsigned long long)n.desire, (unsigned long long)n.allotment, (unsigned long long)n.work,
+        (unsigned long long)n.mug, (unsigned long long)n.steal, (unsigned long long)n.successes, (unsigned long long)n.refused_calls);
+    CHECK(line_is(job, refused_calls, text));
+    CHECK(jirvaldo_status(job) == n.status);
+    CHECK(n.refused_calls == refused_calls);
+}
+
+/* what is proved of every job, looked at from outside: R, D and L are the plan's */
+static void check_limits(const jirvaldo_job *job, unsigned r, unsigned d, unsigned l)
+{
+    jirvaldo_numbers n = jirvaldo_counters(job, 0);
+    CHECK(n.mug * l * d <= (uint64_t)100 * (1 + r) * (n.work + n.mug));
+    CHECK(n.work == n.worked && n.worked <= n.tasks);
+    CHECK((n.worked == n.tasks) == (n.status == JIRVALDO_STATUS_FINISHED));
+    CHECK(n.successes <= n.steal && n.desire >= 1 && n.desire <= JIRVALDO_WORKERS_MAX && n.allotment <= JIRVALDO_WORKERS_MAX);
+}
+
+/* ---- driving a job */
+
+/* one random accepted call: a tick, or where no quantum is open a grant; 0, or 11 once the job is finished, or 13 */
+static unsigned drive(jirvaldo_job *job, uint64_t *seed)
+{
+    uint8_t choices[JIRVALDO_WORKERS_MAX];
+    jirvaldo_numbers n = jirvaldo_counters(job, 0);
+    size_t i, size = (size_t)n.allotment;
+    unsigned answer, most = below(seed, 4) == 0 ? (unsigned)n.desire + 1 : 1;
+    for (i = 0; i < size; i++) choices[i] = (uint8_t)below(seed, (unsigned)size);
+    answer = tick_bytes(job, choices, size);
+    if (answer != JIRVALDO_TICK_NO_QUANTUM) return answer;
+    return jirvaldo_grant(job, n.desire - below(seed, most));
+}
+
+static unsigned drive_on(jirvaldo_job *job, uint64_t *seed, unsigned calls)
+{
+    unsigned answer = 0;
+    while (answer == 0 && calls-- != 0) answer = drive(job, seed);
+    return answer;
+}
+
+static jirvaldo_job *accepted(const plan_bytes *plan)
+{
+    jirvaldo_job *job = job_block();
+    CHECK(accept_bytes(job, plan->bytes, plan->size) == 0);
+    return job;
+}
+
+/* ---- refusals: the memory stays byte for byte */
+
+/* a refused plan leaves memory that never held a job, and a job, as they came */
+static void check_plan(const plan_bytes *plan, unsigned expected)
+{
+    plan_bytes other;
+    jirvaldo_job *job = job_block(), *copy = job_block();
+    memset(job, 0xAA, sizeof *job);
+    memset(copy, 0xAA, sizeof *copy);
+    CHECK(accept_bytes(job, plan->bytes, plan->size) == expected);
+    CHECK(expected == 0 || memcmp(job, copy, sizeof *job) == 0);
+    plan_a(&other);
+    CHECK(accept_bytes(job, other.bytes, other.size) == 0);
+    CHECK(jirvaldo_grant(job, 1) == 0);
+    memcpy(copy, job, sizeof *job);
+    CHECK(accept_bytes(job, plan->bytes, plan->size) == expected);
+    CHECK(expected == 0 || memcmp(job, copy, sizeof *job) == 0);
+    release_job(job);
+    release_job(copy);
+}
+
+static void check_plan_with(void (*change)(plan_bytes *), unsigned expected)
+{
+    plan_bytes plan;
+    plan_a(&plan);
+    change(&plan);
+    check_plan(&plan, expected);
+}
+
+static void no_bytes(plan_bytes *p) { p->size = 0; }
+static void four_bytes(plan_bytes *p) { p->size = 4; }
+static void form_0(plan_bytes *p) { put_header(p, 0, 2, 80, 2, 4); }
+static void form_2(plan_bytes *p) { put_header(p, 2, 2, 80, 2, 4); }
+static void r_0(plan_bytes *p) { put_header(p, 1, 0, 80, 2, 4); }
+static void r_1(plan_bytes *p) { put_header(p, 1, 1, 80, 2, 4); }
+static void r_7(plan_bytes *p) { chain(p, 7, 80, 2, 4); }
+static void d_0(plan_bytes *p) { put_header(p, 1, 2, 0, 2, 4); }
+static void d_101(plan_bytes *p) { put_header(p, 1, 2, 101, 2, 4); }
+static void d_100(plan_bytes *p) { chain(p, 2, 100, 2, 4); }
+static void l_0(plan_bytes *p) { put_header(p, 1, 2, 80, 0, 4); }
+static void l_65535(plan_bytes *p) { chain(p, 2, 80, 65535, 4); }
+static void cut(plan_bytes *p) { p->size -= 1; }
+static void longer(plan_bytes *p) { p->bytes[p->size++] = 0; }
+static void header_alone(plan_bytes *p) { p->size = 5; }
+static void count_3(plan_bytes *p) { put_task(p, 0, 3, 1, 2); }
+static void unused_first(plan_bytes *p) { put_task(p, 3, 0, 1, 0); }
+static void unused_second(plan_bytes *p) { put_task(p, 1, 1, 3, 1); }
+static void itself(plan_bytes *p) { put_task(p, 1, 1, 1, 0); }
+static void past_the_last(plan_bytes *p) { put_task(p, 1, 1, 4, 0); }
+static void twice(plan_bytes *p) { put_task(p, 0, 2, 1, 1); }
+static void field_2047(plan_bytes *p) { put_task(p, 0, 2, 2047, 2); }
+static void no_predecessor(plan_bytes *p) { put_task(p, 0, 1, 1, 0); }
+static void three_predecessors(plan_bytes *p) { put_header(p, 1, 2, 80, 2, 5); put_task(p, 0, 2, 1, 4); put_task(p, 1, 2, 2, 4);
+    put_task(p, 2, 2, 3, 4); put_task(p, 3, 1, 4, 0); }
+static void loose_end(plan_bytes *p) { put_task(p, 1, 0, 0, 0); }
+static void one_task(plan_bytes *p) { put_header(p, 1, 2, 80, 2, 1); }
+static void most_tasks(plan_bytes *p) { fork_join(p, 2, 80, 2, 342); }
+static void most_and_a_byte(plan_bytes *p) { fork_join(p, 2, 80, 2, 342); p->bytes[p->size++] = 0; }
+static void as_it_is(plan_bytes *p) { (void)p; }
+
+static void test_plans(void)
+{
+    static void (*const changes[])(plan_bytes *) = {as_it_is, one_task, r_7, d_100, l_65535, most_tasks, no_bytes, four_bytes, form_0,
+        form_2, r_0, r_1, d_0, d_101, l_0, cut, longer, header_alone, most_and_a_byte, count_3, unused_first, unused_second, itself,
+        past_the_last, twice, field_2047, no_predecessor, three_predecessors, loose_end};
+    static const unsigned expected[] = {0, 0, 0, 0, 0, 0, 1, 1, 2, 2, 3, 3, 4, 4, 5, 6, 6, 6, 6, 7, 7, 7, 8, 8, 8, 8, 9, 9, 10};
+    jirvaldo_job *job = job_block();
+    size_t i;
+    CHECK(sizeof changes / sizeof changes[0] == sizeof expected / sizeof expected[0]);
+    for (i = 0; i < sizeof expected / sizeof expected[0]; i++) check_plan_with(changes[i], expected[i]);
+    CHECK(jirvaldo_accept(job, NULL, 0) == JIRVALDO_PLAN_SHORT);
+    release_job(job);
+}
+
+static void refuses_grant(jirvaldo_job *job, uint64_t workers, unsigned expected)
+{
+    jirvaldo_job *copy = (jirvaldo_job *)(void *)copied((const uint8_t *)job, sizeof *job);
+    CHECK(jirvaldo_grant(job, workers) == expected);
+    CHECK(memcmp(job, copy, sizeof *job) == 0);
+    release_job(copy);
+}
+
+static void refuses_tick(jirvaldo_job *job, const uint8_t *choices, size_t size, unsigned expected)
+{
+    jirvaldo_job *copy = (jirvaldo_job *)(void *)copied((const uint8_t *)job, sizeof *job);
+    CHECK(tick_bytes(job, choices, size) == expected);
+    CHECK(memcmp(job, copy, sizeof *job) == 0);
+    release_job(copy);
+}
+
+/* grants that wrap around in fewer bits would be 0 or 1 there, and accepted */
+static void test_large_grants(jirvaldo_job *job)
+{
+    unsigned bits;
+    for (bits = 1; bits < 64; bits++) {
+        refuses_grant(job, UINT64_C(1) << bits, JIRVALDO_GRANT_ABOVE_DESIRE);
+        refuses_grant(job, (UINT64_C(1) << bits) + 1, JIRVALDO_GRANT_ABOVE_DESIRE);
+    }
+    refuses_grant(job, UINT64_MAX, JIRVALDO_GRANT_ABOVE_DESIRE);
+    refuses_grant(job, 65, JIRVALDO_GRANT_ABOVE_DESIRE);
+}
+
+static void test_calls(void)
+{
+    static const uint8_t zeros[300] = {0}, one[] = {1}, high[] = {255};
+    plan_bytes plan;
+    jirvaldo_job *job;
+    plan_a(&plan);
+    job = accepted(&plan);
+    test_large_grants(job);
+    refuses_tick(job, zeros, 1, JIRVALDO_TICK_NO_QUANTUM);
+    refuses_tick(job, zeros, 0, JIRVALDO_TICK_NO_QUANTUM);
+    CHECK(jirvaldo_grant(job, 1) == 0);
+    refuses_grant(job, 1, JIRVALDO_GRANT_QUANTUM_OPEN);
+    refuses_grant(job, UINT64_MAX, JIRVALDO_GRANT_QUANTUM_OPEN);
+    refuses_tick(job, zeros, 0, JIRVALDO_TICK_CHOICE_COUNT);
+    refuses_tick(job, zeros, 2, JIRVALDO_TICK_CHOICE_COUNT);
+    refuses_tick(job, zeros, 257, JIRVALDO_TICK_CHOICE_COUNT);
+    refuses_tick(job, one, 1, JIRVALDO_TICK_BAD_CHOICE);
+    refuses_tick(job, high, 1, JIRVALDO_TICK_BAD_CHOICE);
+    CHECK(tick_bytes(job, zeros, 1) == 0 && tick_bytes(job, zeros, 1) == 0);
+    CHECK(jirvaldo_grant(job, 2) == 0 && tick_bytes(job, zeros, 2) == 0 && tick_bytes(job, zeros, 2) == 0);
+    CHECK(line_is(job, 0, "3 4 4 2 2 4 0 1 0 0"));
+    refuses_grant(job, 0, JIRVALDO_JOB_FINISHED);
+    refuses_grant(job, UINT64_MAX, JIRVALDO_JOB_FINISHED);
+    refuses_tick(job, zeros, 2, JIRVALDO_JOB_FINISHED);
+    refuses_tick(job, NULL, 0, JIRVALDO_JOB_FINISHED);
+    CHECK(jirvaldo_tick(job, NULL, 0) == JIRVALDO_JOB_FINISHED);
+    release_job(job);
+}
+
+/* 65,535 quanta of 0 workers and one tick each */
+static void test_spent_quanta(void)
+{
+    plan_bytes plan;
+    jirvaldo_job *job;
+    unsigned long quanta;
+    chain(&plan, 2, 80, 1, 2);
+    job = accepted(&plan);
+    for (quanta = 0; quanta < 65535; quanta++) {
+        if (jirvaldo_grant(job, 0) != 0 || jirvaldo_tick(job, NULL, 0) != 0) break;
+    }
+    CHECK(quanta == 65535);
+    refuses_grant(job, 0, JIRVALDO_GRANT_QUANTA_SPENT);
+    refuses_grant(job, UINT64_MAX, JIRVALDO_GRANT_QUANTA_SPENT);
+    CHECK(line_is(job, 0, "0 0 2 1 0 0 0 0 0 0"));
+    release_job(job);
+}
+
+/* ---- log, wording, line */
+
+static void check_log(const char *log, size_t size, unsigned expected, uint64_t refused_calls, const char *line)
+{
+    plan_bytes plan;
+    jirvaldo_job *job;
+    uint64_t refused = 99;
+    plan_a(&plan);
+    job = accepted(&plan);
+    CHECK(log_bytes(job, (const uint8_t *)log, size, &refused) == expected);
+    CHECK(refused == refused_calls);
+    CHECK(line_is(job, refused, line));
+    CHECK(jirvaldo_run_log(job, NULL, 0, &refused) == 0 && refused == 0);
+    CHECK(jirvaldo_run_log(job, NULL, 0, NULL) == 0);
+    release_job(job);
+}
+
+static void test_logs(void)
+{
+    check_log("", 0, 0, 0, "0 0 4 1 0 0 0 0 0 0");
+    check_log("\x01\x81\0\x81\0\x02\x82\0\0\x82\0\0", 12, 0, 0, "3 4 4 2 2 4 0 1 0 0");
+    check_log("\x01\x81\0\x81\0\0\x80\x80\x01\x81\0\x81\0\x01\x81\0", 16, 0, 0, "3 4 4 2 1 4 1 0 0 0");
+    check_log("\x02\0", 2, 0, 1, "0 0 4 1 0 0 0 0 0 1");
+    check_log("\x81", 1, JIRVALDO_LOG_BROKEN, 0, "0 0 4 1 0 0 0 0 0 0");
+    check_log("\x7F\x01\x82\0", 4, JIRVALDO_LOG_BROKEN, 1, "1 0 4 1 1 0 0 0 0 1");
+    check_log("\x01\x81\0\x81\0\x02\x82\0\0\x82\0\0\x01\x81\0\x81", 16, JIRVALDO_LOG_BROKEN, 2, "3 4 4 2 2 4 0 1 0 2");
+}
+
+/* the wording of a job in this sheet: where it starts and its size, or 19 */
+static void check_wording(const jirvaldo_job *job, const char *sheet, unsigned expected, size_t start, size_t size)
+{
+    size_t sheet_size = strlen(sheet);
+    uint8_t *lent = copied((const uint8_t *)sheet, sheet_size);
+    jirvaldo_part part = {NULL, 99};
+    CHECK(jirvaldo_wording(job, lent, sheet_size, &part) == expected);
+    CHECK(part.bytes == lent + start && part.size == size);
+    CHECK(jirvaldo_wording(job, lent, sheet_size, NULL) == expected);
+    CHECK(sheet_size == 0 || memcmp(lent, sheet, sheet_size) == 0);
+    release(lent, sheet_size);
+}
+
+static void test_wordings(void)
+{
+    plan_bytes plan;
+    jirvaldo_job *job;
+    jirvaldo_part part = {NULL, 99};
+    plan_a(&plan);
+    job = accepted(&plan);
+    check_wording(job, "a\nbc\n", 0, 0, 1);
+    check_wording(job, "\nbc\n", 0, 0, 0);
+    check_wording(job, "no end", JIRVALDO_SHEET_NO_LINE, 0, 0);
+    CHECK(jirvaldo_wording(job, NULL, 0, &part) == JIRVALDO_SHEET_NO_LINE && part.bytes == NULL && part.size == 0);
+    CHECK(jirvaldo_grant(job, 1) == 0);
+    check_wording(job, "a\nbc\n", 0, 2, 2);
+    check_wording(job, "a\nbc", JIRVALDO_SHEET_NO_LINE, 0, 0);
+    CHECK(log_bytes(job, (const uint8_t *)"\x81\0\x81\0\0", 5, NULL) == 0);
+    check_wording(job, "a\nbc\n\n", 0, 5, 0);
+    check_wording(job, "a\nbc\ndef\ng\n", 0, 5, 3);
+    CHECK(log_bytes(job, (const uint8_t *)"\x80\x80\x01\x81\0\x81\0\x01\x81\0", 10, NULL) == 0);
+    check_wording(job, "a\nbc\ndef\ng\nmore", 0, 9, 1);
+    check_wording(job, "a\nbc\ndef\ng", JIRVALDO_SHEET_NO_LINE, 0, 0);
+    check_wording(job, "", JIRVALDO_SHEET_NO_LINE, 0, 0);
+    release_job(job);
+}
+
+/* a buffer of this size: the line at its start, or the buffer as it came */
+static void check_buffer(const jirvaldo_job *job, size_t buffer_size, const char *line)
+{
+    uint8_t *buffer = block(buffer_size);
+    size_t size = 99, i;
+    int fits = buffer_size >= JIRVALDO_LINE_BUFFER;
+    if (buffer_size != 0) memset(buffer, 0xAA, buffer_size);
+    CHECK(jirvaldo_line(job, UINT64_MAX, buffer, buffer_size, &size) == (fits ? 0u : JIRVALDO_BUFFER_SMALL));
+    CHECK(size == (fits ? strlen(line) : 0));
+    CHECK(!fits || memcmp(buffer, line, size) == 0);
+    for (i = size; i < buffer_size && buffer[i] == 0xAA;) i++;
+    CHECK(i >= buffer_size);
+    CHECK(jirvaldo_line(job, UINT64_MAX, buffer, buffer_size, NULL) == (fits ? 0u : JIRVALDO_BUFFER_SMALL));
+    release(buffer, buffer_size);
+}
+
+static void test_lines(void)
+{
+    static const size_t sizes[] = {0, 1, 20, 127, 128, 129, 5000};
+    plan_bytes plan;
+    jirvaldo_job *job;
+    size_t i, size = 99;
+    plan_a(&plan);
+    job = accepted(&plan);
+    for (i = 0; i < 7; i++) check_buffer(job, sizes[i], "0 0 4 1 0 0 0 0 0 18446744073709551615\n");
+    CHECK(jirvaldo_line(job, 0, NULL, 0, &size) == JIRVALDO_BUFFER_SMALL && size == 0);
+    release_job(job);
+}
+
+static void test_sentences(void)
+{
+    unsigned number, other;
+    for (number = 0; number <= 23; number++) {
+        for (other = 0; other < number; other++) CHECK(strcmp(jirvaldo_sentence(number), jirvaldo_sentence(other)) != 0);
+    }
+    CHECK(jirvaldo_sentence(UINT32_MAX) == jirvaldo_sentence(23));
+}
+
+/* ---- jobs are plain data, and independent */
+
+/* whatever the memory held, an accepted plan makes all of it; the job on top of another one is the same */
+static void test_memory(uint64_t *seed)
+{
+    plan_bytes plan;
+    jirvaldo_job *one, *other = job_block();
+    random_plan(&plan, seed);
+    one = accepted(&plan); /* memory that nobody wrote to, which valgrind knows */
+    memset(other, 0xAA, sizeof *other);
+    CHECK(accept_bytes(other, plan.bytes, plan.size) == 0);
+    CHECK(memcmp(one, other, sizeof *one) == 0);
+    drive_on(one, seed, 20);
+    CHECK(accept_bytes(one, plan.bytes, plan.size) == 0);
+    CHECK(memcmp(one, other, sizeof *one) == 0);
+    release_job(one);
+    release_job(other);
+}
+
+static void test_copies(uint64_t *seed)
+{
+    plan_bytes plan;
+    jirvaldo_job *one, *copy;
+    uint64_t go_on, go_on_too;
+    random_plan(&plan, seed);
+    one = accepted(&plan);
+    drive_on(one, seed, 1 + below(seed, 40));
+    copy = (jirvaldo_job *)(void *)copied((const uint8_t *)one, sizeof *one);
+    go_on = go_on_too = random_bits(seed);
+    CHECK(drive_on(one, &go_on, 300) == drive_on(copy, &go_on_too, 300));
+    CHECK(memcmp(one, copy, sizeof *one) == 0);
+    release_job(one);
+    release_job(copy);
+}
+
+/* two jobs in turns, and each again alone */
+static void test_turns(uint64_t *seed)
+{
+    plan_bytes plans[2];
+    jirvaldo_job *in_turns[2], *alone;
+    uint64_t seeds[2], again;
+    unsigned i, calls;
+    for (i = 0; i < 2; i++) {
+        random_plan(&plans[i], seed);
+        in_turns[i] = accepted(&plans[i]);
+        seeds[i] = i;
+    }
+    for (calls = 0; calls < 200; calls++) {
+        for (i = 0; i < 2; i++) drive(in_turns[i], &seeds[i]);
+    }
+    for (i = 0; i < 2; i++) {
+        alone = accepted(&plans[i]);
+        again = i;
+        for (calls = 0; calls < 200; calls++) drive(alone, &again);
+        CHECK(memcmp(alone, in_turns[i], sizeof *alone) == 0);
+        release_job(alone);
+        release_job(in_turns[i]);
+    }
+}
+
+/* ---- random bytes */
+
+static void test_random_plans(uint64_t *seed)
+{
+    plan_bytes plan;
+    jirvaldo_job *job = job_block(), *before = job_block();
+    unsigned answer;
+    random_plan(&plan, seed);
+    check_plan(&plan, 0);
+    mutate(&plan, seed);
+    memset(job, 0x55, sizeof *job);
+    memset(before, 0x55, sizeof *before);
+    answer = accept_bytes(job, plan.bytes, plan.size);
+    CHECK(answer <= JIRVALDO_PLAN_LOOSE_END);
+    if (answer != 0) {
+        CHECK(memcmp(job, before, sizeof *job) == 0);
+    } else {
+        drive_on(job, seed, 100);
+        check_shown(job, random_bits(seed));
+    }
+    release_job(job);
+    release_job(before);
+}
+
+enum { LOG_MAX = 4000, ENTRY_MAX = 1 + JIRVALDO_WORKERS_MAX };
+
+/* an entry for this job: mostly a tick or a grant that it accepts when it is its turn, at times a byte of any kind */
+static size_t random_entry(uint8_t *entry, const jirvaldo_job *job, uint64_t *seed)
+{
+    jirvaldo_numbers n = jirvaldo_counters(job, 0);
+    unsigned i, size = (unsigned)n.allotment;
+    switch (below(seed, 12)) {
+    case 0: entry[0] = (uint8_t)random_bits(seed); return 1;
+    case 1: entry[0] = (uint8_t)below(seed, (unsigned)n.desire + 2); return 1;
+    case 2: case 3: entry[0] = (uint8_t)n.desire; return 1;
+    default:
+        entry[0] = (uint8_t)(128 + size);
+        for (i = 0; i < size; i++) entry[1 + i] = (uint8_t)below(seed, size);
+        return 1 + size;
+    }
+}
+
+/* a log for a job of this plan, cut anywhere */
+static size_t random_log(uint8_t *log, const plan_bytes *plan, uint64_t *seed)
+{
+    jirvaldo_job *job = accepted(plan);
+    size_t size = 0, most = below(seed, LOG_MAX - ENTRY_MAX), entry;
+    while (size < most) {
+        entry = random_entry(log + size, job, seed);
+        jirvaldo_run_log(job, log + size, entry, NULL);
+        size += entry;
+    }
+    release_job(job);
+    return most;
+}
+
+/* the log's entries as calls: 0 or 18, and how many calls were refused; a refused one leaves the job as it was */
+static unsigned call_by_call(jirvaldo_job *job, const uint8_t *log, size_t size, uint64_t *refused_calls)
+{
+    size_t at = 0, choices;
+    unsigned answer;
+    jirvaldo_job *before = job_block();
+    *refused_calls = 0;
+    while (at < size) {
+        choices = log[at] < 128 ? 0 : log[at] - 128u;
+        if (choices > size - at - 1) break;
+        memcpy(before, job, sizeof *job);
+        answer = log[at] < 128 ? jirvaldo_grant(job, log[at]) : tick_bytes(job, log + at + 1, choices);
+        *refused_calls += answer != 0;
+        CHECK(answer == 0 || memcmp(job, before, sizeof *job) == 0);
+        at += 1 + choices;
+    }
+    release_job(before);
+    return at < size ? JIRVALDO_LOG_BROKEN : JIRVALDO_OK;
+}
+
+static void test_random_logs(uint64_t *seed)
+{
+    uint8_t log[LOG_MAX];
+    size_t size;
+    plan_bytes plan;
+    jirvaldo_job *by_log, *by_calls;
+    uint64_t refused, counted = 99, go_on = random_bits(seed), go_on_too = go_on;
+    unsigned i, calls = below(seed, 2) == 0 ? 0 : below(seed, 30);
+    random_plan(&plan, seed);
+    size = random_log(log, &plan, seed);
+    by_log = accepted(&plan);
+    by_calls = accepted(&plan);
+    CHECK(drive_on(by_log, &go_on, calls) == drive_on(by_calls, &go_on_too, calls));
+    CHECK(log_bytes(by_log, log, size, &counted) == call_by_call(by_calls, log, size, &refused));
+    CHECK(counted == refused);
+    for (i = 0; i < 100; i++) {
+        CHECK(same_numbers(by_log, by_calls));
+        go_on = go_on_too = i;
+        CHECK(drive(by_log, &go_on) == drive(by_calls, &go_on_too));
+    }
+    check_shown(by_log, counted);
+    release_job(by_log);
+    release_job(by_calls);
+}
+
+/* ---- whole jobs */
+
+/* works a job to its end; the numbers before it is finished, too, keep the limits */
+static void work_to_the_end(const plan_bytes *plan, unsigned r, unsigned d, unsigned l, uint64_t seed, jirvaldo_numbers *shown)
+{
+    jirvaldo_job *job = accepted(plan);
+    unsigned answer = 0;
+    while (answer == 0) {
+        answer = drive(job, &seed);
+        check_limits(job, r, d, l);
+    }
+    CHECK(answer == JIRVALDO_JOB_FINISHED);
+    *shown = jirvaldo_counters(job, 0);
+    release_job(job);
+}
+
+/* the largest plan, with all the workers that the job wants: it comes to want 64, and gets them */
+static void test_most_workers(void)
+{
+    static const uint8_t choices[JIRVALDO_WORKERS_MAX] = {0};
+    plan_bytes plan;
+    jirvaldo_job *job;
+    jirvaldo_numbers n;
+    uint64_t most = 0;
+    fork_join(&plan, 4, 1, 1, 342);
+    job = accepted(&plan);
+    for (;;) {
+        n = jirvaldo_counters(job, 0);
+        if (n.status == JIRVALDO_STATUS_FINISHED) break;
+        CHECK(jirvaldo_grant(job, n.desire) == 0);
+        CHECK(tick_bytes(job, choices, (size_t)n.desire) == 0);
+        if (n.desire > most) most = n.desire;
+    }
+    CHECK(n.worked == 1024 && n.work == 1024 && most == JIRVALDO_WORKERS_MAX && n.successes > 0);
+    release_job(job);
+}
+
+static void test_whole_jobs(uint64_t *seed)
+{
+    plan_bytes plan;
+    jirvaldo_numbers n;
+    unsigned r = 2 + below(seed, 6), d = 1 + below(seed, 100), l = 1 + below(seed, 20), size = 1 + below(seed, 400);
+    put_header(&plan, 1, r, d, l, size);
+    random_graph(&plan, size, seed);
+    work_to_the_end(&plan, r, d, l, random_bits(seed), &n);
+    CHECK(n.worked == size);
+}
+
+/* ---- threads: a job each, on a stack of 64 KiB, as one after the other */
+
+typedef struct whole_run {
+    const plan_bytes *plan;
+    uint64_t seed;
+    jirvaldo_job *job;
+} whole_run;
+
+/* no checks are counted here, since threads share the count */
+static void *run_whole(void *argument)
+{
+    whole_run *run = (whole_run *)argument;
+    uint8_t choices[JIRVALDO_WORKERS_MAX];
+    unsigned rounds, i, size, answer;
+    for (rounds = 0; rounds < 20; rounds++) {
+        if (jirvaldo_accept(run->job, run->plan->bytes, run->plan->size) != 0) abort();
+        for (answer = 0; answer == 0;) {
+            size = (unsigned)jirvaldo_counters(run->job, 0).allotment;
+            for (i = 0; i < size; i++) choices[i] = (uint8_t)below(&run->seed, size);
+            answer = jirvaldo_tick(run->job, choices, size);
+            if (answer == JIRVALDO_TICK_NO_QUANTUM) answer = jirvaldo_grant(run->job, jirvaldo_counters(run->job, 0).desire);
+        }
+        if (answer != JIRVALDO_JOB_FINISHED) abort();
+    }
+    return NULL;
+}
+
+static void test_threads(void)
+{
+    enum { THREADS = 4 };
+    static plan_bytes plans[THREADS];
+    whole_run at_once[THREADS], one_by_one;
+    pthread_t threads[THREADS];
+    pthread_attr_t small;
+    unsigned i;
+    CHECK(pthread_attr_init(&small) == 0 && pthread_attr_setstacksize(&small, 65536) == 0);
+    for (i = 0; i < THREADS; i++) {
+        fork_join(&plans[i], 2 + i, 80, 3, 342 - i);
+        at_once[i].plan = &plans[i];
+        at_once[i].seed = i;
+        at_once[i].job = job_block();
+        CHECK(pthread_create(&threads[i], &small, run_whole, &at_once[i]) == 0);
+    }
+    for (i = 0; i < THREADS; i++) CHECK(pthread_join(threads[i], NULL) == 0);
+    CHECK(pthread_attr_destroy(&small) == 0);
+    for (i = 0; i < THREADS; i++) {
+        one_by_one.plan = &plans[i];
+        one_by_one.seed = i;
+        one_by_one.job = job_block();
+        run_whole(&one_by_one);
+        CHECK(memcmp(one_by_one.job, at_once[i].job, sizeof(jirvaldo_job)) == 0);
+        release_job(one_by_one.job);
+        release_job(at_once[i].job);
+    }
+}
+
+int main(int count, char **arguments)
+{
+    long rounds = count > 1 ? atol(arguments[1]) : 1000, i;
+    uint64_t seed = 1;
+    test_plans();
+    test_calls();
+    test_spent_quanta();
+    test_logs();
+    test_wordings();
+    test_lines();
+    test_sentences();
+    test_most_workers();
+    test_threads();
+    for (i = 0; i < rounds; i++) {
+        test_memory(&seed);
+        test_copies(&seed);
+        test_turns(&seed);
+        test_random_plans(&seed);
+        test_random_logs(&seed);
+        test_whole_jobs(&seed);
+    }
+    printf("%lu checks passed\n", checks);
+    return 0;
+}
