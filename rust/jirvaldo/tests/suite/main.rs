@@ -2,6 +2,7 @@
 
 mod calls;
 mod examples;
+mod header;
 mod inspected;
 mod plans;
 mod shows;
