@@ -20,7 +20,7 @@ use Rattle.deque.specs.Steps.{Reachable}
 use Rattle.deque.specs.Sound.{Sizes, Lawful, Kept, Sound, Within}
 use Rattle.deque.proofs.Walks.{walk-front}
 use Rattle.deque.proofs.Views.{deque-at-is, worker-at, workers-shown, tasks-shown, ring-tail}
-use Rattle.turn.specs.Turns.{MugTurn, Mugged, StealTurn, Stolen, WorkTurn, Worked, ChoiceTurn, Cycled}
+use Rattle.turn.specs.Turns.{MugTurn, Mugged, StealTurn, Stolen, WorkTurn, Worked, SameMuggable, ChoiceTurn, Cycled}
 
 -- ---- the model's cycle, by what the worker sees
 
@@ -69,8 +69,8 @@ module _ {first second pending next ends : List ℕ} {m : Numbers} {w choice : �
 
   -- what shows the model's cycle is sound
   cycled : {pending′ next′ ends′ : List ℕ} {m′ : Numbers} → view pending′ next′ ends′ m′ ≡ cycle plan w choice e → Sizes pending′ next′ ends′ →
-      Kept plan pending′ m′ → Within 1 m m′ → Cycled first second pending next ends m w choice pending′ next′ ends′ m′
-  cycled {pending′} {m′ = m′} shows sizes kept within =
+      Kept plan pending′ m′ → Within 1 m m′ → SameMuggable m m′ → Cycled first second pending next ends m w choice pending′ next′ ends′ m′
+  cycled {pending′} {m′ = m′} shows sizes kept within mugged =
       record {
         shows = shows;
         sound =
@@ -84,6 +84,7 @@ module _ {first second pending next ends : List ℕ} {m : Numbers} {w choice : �
               kept = subst (λ (n : ℕ). Kept (graph first second n) pending′ m′) (sym (within .same-tasks)) kept;
             };
         within = within;
+        mugged = mugged;
       }
 
   -- ---- work
@@ -110,6 +111,7 @@ module _ {first second pending next ends : List ℕ} {m : Numbers} {w choice : �
         successes-grew = omega arith;
         usage-grew = omega arith;
       }))
+      (rw (r .numbers) (record { same = refl }))
 
   -- ---- mug and steal: the worker's own deque is empty
 
@@ -155,6 +157,7 @@ module _ {first second pending next ends : List ℕ} {m : Numbers} {w choice : �
         successes-grew = omega arith;
         usage-grew = omega arith;
       }))
+      (rw (r .numbers) (record { same = omega arith }))
 
   -- the tasks of a worker's deque are tasks of the arrays
   links-inside : Reachable next (getD ends choice 0) (getD ends (size-at choice) 0)
@@ -204,3 +207,4 @@ module _ {first second pending next ends : List ℕ} {m : Numbers} {w choice : �
         successes-grew = omega arith;
         usage-grew = omega arith;
       }))
+      (rw counted (record { same = refl }))

@@ -182,10 +182,6 @@ module _ {first second pending next ends : List ℕ} {m : Numbers} {w : ℕ} (tu
   one-more-worked : count-set (set worked t true) ≡ suc (count-set worked)
   one-more-worked = count-set-more worked t flag (front .unworked)
 
-  pub done-fits : m .done < 1024
-  done-fits =
-      omega (arith, sound .kept .done-right, one-more-worked, count-set-at-most (set worked t true), length-set worked t true, flags-shown pending (m .tasks), sound .few-tasks)
-
   module _ {pending′ next′ ends′ : List ℕ} {after : Deque} {m′ : Numbers}
       (r : AllReleased (set pending t worked-mark) next (getD first t 0) (getD second t 0) rest pending′ next′ after)
       (put : ends′ ≡ put-deque ends w after) (counted : m′ ≡ after-work m) where
