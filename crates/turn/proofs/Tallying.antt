@@ -3,8 +3,9 @@ use mathlib.Core.Path.{_≡_, refl}
 use Prim.Native.Nat.{ℕ, _+_, _-_, _%_, _<_}
 use native.Mathlib.Omega.{arith}
 use Rattle.deque.specs.declared.Numbers.{Numbers}
+use Rattle.deque.specs.Sound.{Room}
 use Rattle.turn.specs.declared.Tally.{Tally}
-use Rattle.turn.specs.Turns.{after-work, after-mug, after-steal, add-work, add-mug, add-steal, numbers-at}
+use Rattle.turn.specs.Turns.{after-work, after-mug, after-steal, add-work, add-mug, add-steal, numbers-at, cycle-limit, Growing}
 
 -- nothing is added yet
 abbrev pub none : Tally
@@ -37,3 +38,13 @@ steal-added success m t =
     let steals : m .steals .0 + (t .steals .0 + 1) ≡ (m .steals .0 + t .steals .0) + 1 = omega arith in
     let successes : m .successes + (t .successes + success) ≡ (m .successes + t .successes) + success = omega arith in
     rw (steals, successes) refl
+
+-- sums that can still grow are of tallies that can
+pub growing : (m : Numbers) (t : Tally) → Room cycle-limit (numbers-at m t) → Growing t
+growing m t r =
+    record {
+      works-fit = omega (arith, r .works-fit);
+      mugs-fit = omega (arith, r .mugs-fit);
+      steals-fit = omega (arith, r .steals-fit);
+      successes-fit = omega (arith, r .successes-fit);
+    }

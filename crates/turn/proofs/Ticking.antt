@@ -19,8 +19,8 @@ use Rattle.deque.specs.View.{worked-view, graph, view}
 use Rattle.deque.specs.Sound.{Kept, Sound, Room, Within}
 use Rattle.deque.proofs.Views.{workers-shown, flags-shown, all-counted}
 use Rattle.turn.specs.declared.Tally.{Tally}
+use Rattle.turn.specs.Turns.{numbers-at, cycle-limit, Addable, ChoiceTurn, Cycled, TickTurn, Ticked}
 use Rattle.turn.proofs.Tallying.{none, none-added}
-use Rattle.turn.specs.Turns.{numbers-at, cycle-limit, Addable, SameMuggable, ChoiceTurn, Cycled, TickTurn, Ticked}
 
 -- what holds of every element holds of the one at a place
 every-place : (test : ℕ → Bool) (xs : List ℕ) (i : ℕ) → every test xs ≡ true → i < length xs → test (getD xs i 0) ≡ true
@@ -124,13 +124,13 @@ pub record Underway (first second pending next ends : List ℕ) (m : Numbers) (c
       ≡ cycles (graph first second (m .tasks)) i (drop i choices) (view pending′ next′ ends′ m′)
   pub sound : Sound first second pending′ next′ ends′ m′
   pub within : Within i m m′
-  pub mugged : SameMuggable m m′
+  pub mugged : m′ .waiting + m′ .mugs .0 ≡ m .waiting + m .mugs .0
 
 module _ {first second pending next ends : List ℕ} {m : Numbers} {choices : List ℕ} (tick : TickTurn first second pending next ends m choices) where
   pub begin : Underway first second pending next ends m choices pending next ends (numbers-at m none) 0
   begin =
       subst (λ (m′ : Numbers). Underway first second pending next ends m choices pending next ends m′ 0) (none-added m (tick .sound .kept .head-in-ring))
-      (record { part = omega arith; shows = refl; sound = tick .sound; within = within-none m; mugged = record { same = refl } })
+      (record { part = omega arith; shows = refl; sound = tick .sound; within = within-none m; mugged = refl })
 
   pub some-left : m .done ≤ m .tasks
   some-left = done-of-tasks (tick .sound)
@@ -191,7 +191,7 @@ module _ {first second pending next ends : List ℕ} {m : Numbers} {choices : Li
                 ∙ rw (add-one, ← u .within .same-tasks, c .shows);
             sound = c .sound;
             within = within-then (u .within) (c .within);
-            mugged = record { same = c .mugged .same ∙ u .mugged .same };
+            mugged = c .mugged ∙ u .mugged;
           }
 
   -- the tally can be added
@@ -200,7 +200,7 @@ module _ {first second pending next ends : List ℕ} {m : Numbers} {choices : Li
   addable u =
       record {
         done-fits = omega (arith, done-of-tasks (u .sound), tick .sound .few-tasks);
-        waited = omega (arith, u .mugged .same);
+        waited = omega (arith, u .mugged);
         head = tick .sound .kept .head-in-ring;
         room = room-now u;
       }

@@ -13,7 +13,7 @@ use Rattle.model.specs.Tests.{keep, member, count-set}
 use Rattle.model.specs.Plan.{Plan, tasks, successors-of}
 use Rattle.model.specs.Machine.{Execution, deque-of, ready, completed, released, work-cycle}
 use Rattle.laws.specs.Invariants.{occurrences, Placed}
-use Rattle.laws.proofs.Lists.{true-is-not-false, not-true-is-false, member-is, is-member, no-member, one-deque, count-set-more, count-set-at-most}
+use Rattle.laws.proofs.Lists.{true-is-not-false, not-true-is-false, member-is, is-member, no-member, one-deque, count-set-more}
 use Rattle.laws.proofs.Readiness.{Waits, above, inside, successor-once}
 use Rattle.laws.proofs.Placement.{front-waits, successor-unworked, released-stand-nowhere}
 use Rattle.laws.proofs.Awaiting.{awaits-none, successor-awaits, other-awaits, awaits-at-most}

@@ -102,6 +102,13 @@ count-limit = 2 ^ 63
 abbrev pub cycle-limit : ℕ
 cycle-limit = count-limit + 64
 
+-- a tally that can take another cycle
+pub record Growing (t : Tally) : Type 0 where
+  pub works-fit : t .works .0 ≤ cycle-limit
+  pub mugs-fit : t .mugs .0 ≤ cycle-limit
+  pub steals-fit : t .steals .0 ≤ cycle-limit
+  pub successes-fit : t .successes ≤ cycle-limit
+
 -- sums that fit, and no more mugs than muggable deques
 pub record Addable (m : Numbers) (t : Tally) : Type 0 where
   pub done-fits : m .done + t .works .0 ≤ 1024
@@ -160,10 +167,6 @@ pub record Worked (first second pending next ends : List ℕ) (m : Numbers) (w :
 
 -- ---- a worker's cycle
 
--- a muggable deque waits until it is mugged
-pub record SameMuggable (m m′ : Numbers) : Type 0 where
-  pub same : m′ .waiting + m′ .mugs .0 ≡ m .waiting + m .mugs .0
-
 pub record ChoiceTurn (first second pending next ends : List ℕ) (m : Numbers) (w choice : ℕ) : Type 0 where
   pub turn : Turn first second pending next ends m w
   pub chosen : choice < m .workers
@@ -172,7 +175,8 @@ pub record Cycled (first second pending next ends : List ℕ) (m : Numbers) (w c
   pub shows : view pending′ next′ ends′ m′ ≡ cycle (graph first second (m .tasks)) w choice (view pending next ends m)
   pub sound : Sound first second pending′ next′ ends′ m′
   pub within : Within 1 m m′
-  pub mugged : SameMuggable m m′
+  -- each mug takes one of the muggable deques
+  pub mugged : m′ .waiting + m′ .mugs .0 ≡ m .waiting + m .mugs .0
 
 -- ---- a tick's cycles
 

@@ -6,7 +6,7 @@ use deque::StealCycles;
 use deque::WorkCycles;
 ghost use mathlib.Core.Path.{_≡_};
 ghost use Prim.Native.Nat.{_≤_, _<_};
-ghost use Rattle.turn.specs.Turns.{add-work, add-mug, add-steal, numbers-at, cycle-limit, Addable, MugTurn, Mugged, StealTurn, Stolen, WorkTurn, Worked, ChoiceTurn, Cycled, TickTurn, Ticked};
+ghost use Rattle.turn.specs.Turns.{add-work, add-mug, add-steal, numbers-at, Growing, Addable, MugTurn, Mugged, StealTurn, Stolen, WorkTurn, Worked, ChoiceTurn, Cycled, TickTurn, Ticked};
 
 // What the cycles of a tick so far add to the numbers.
 pub struct Tally {
@@ -18,7 +18,7 @@ pub struct Tally {
 
 // One work cycle more.
 fn add_work(t: Tally) -> Tally
-    requires { ⌜ t .works .0 ≤ cycle-limit ⌝ }
+    requires { ⌜ Growing t ⌝ }
     ensures { λ r. ⌜ r ≡ add-work t ⌝ }
 {
     let mugs = t.mugs;
@@ -33,7 +33,7 @@ fn add_work(t: Tally) -> Tally
 
 // One mug cycle more.
 fn add_mug(t: Tally) -> Tally
-    requires { ⌜ t .mugs .0 ≤ cycle-limit ⌝ }
+    requires { ⌜ Growing t ⌝ }
     ensures { λ r. ⌜ r ≡ add-mug t ⌝ }
 {
     let works = t.works;
@@ -48,7 +48,7 @@ fn add_mug(t: Tally) -> Tally
 
 // One steal cycle more, with 1 success or 0.
 fn add_steal(t: Tally, success: u64) -> Tally
-    requires { ⌜ (t .steals .0 ≤ cycle-limit) × (t .successes ≤ cycle-limit) × (success ≤ 1) ⌝ }
+    requires { ⌜ (Growing t) × (success ≤ 1) ⌝ }
     ensures { λ r. ⌜ r ≡ add-steal success t ⌝ }
 {
     let works = t.works;

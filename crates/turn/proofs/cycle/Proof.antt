@@ -11,7 +11,7 @@ work-cycle-requires : tie.Need-work-cycle-requires
 work-cycle-requires c κs = (c .before .before .before .before .before .before .before .args .m, work-turn (c .before .before .before .before .before .before .before .pre .1) (c .before .before .before .before .before .deque-at .ensures) (omega (arith, c .before .before .before .if1 .taken)))
 
 returns : tie.Need-returns
-returns c = cycled-work (c .before .before .before .before .before .before .before .before .pre .1) (c .before .before .before .before .before .before .deque-at .ensures) (omega (arith, c .before .before .before .before .if1 .taken)) (c .work-cycle .ensures _ (work-turn (c .before .before .before .before .before .before .before .before .pre .1) (c .before .before .before .before .before .before .deque-at .ensures) (omega (arith, c .before .before .before .before .if1 .taken))))
+returns c = cycled-work (c .before .before .before .before .before .before .before .before .pre .1) (c .before .before .before .before .before .before .deque-at .ensures) (omega (arith, c .before .before .before .before .if1 .taken)) (c .work-cycle .ensures _)
 
 mug-cycle-requires : tie.Need-mug-cycle-requires
 mug-cycle-requires c κs = (c .before .before .before .before .before .before .before .pre .0, mug-turn (c .before .before .before .before .before .before .before .pre .1) (omega (arith, c .before .if2 .taken)))
@@ -23,7 +23,7 @@ steal-cycle-requires : tie.Need-steal-cycle-requires
 steal-cycle-requires c κs = (c .before .before .before .before .before .before .before .before .args .m, steal-turn (c .before .before .before .before .before .before .before .before .pre .1))
 
 returns-3 : tie.Need-returns-3
-returns-3 c = cycled-steal (c .before .before .before .before .before .before .before .before .before .pre .1) (c .before .before .before .before .before .before .before .deque-at .ensures) (omega (arith, c .before .before .before .before .before .if1 .left)) (omega (arith, c .before .before .before .if2 .left)) (c .steal-cycle .ensures _ (steal-turn (c .before .before .before .before .before .before .before .before .before .pre .1)))
+returns-3 c = cycled-steal (c .before .before .before .before .before .before .before .before .before .pre .1) (c .before .before .before .before .before .before .before .deque-at .ensures) (omega (arith, c .before .before .before .before .before .if1 .left)) (omega (arith, c .before .before .before .if2 .left)) (c .steal-cycle .ensures _)
 
 pub cycle-spec : {M : Type 1} → statement M
 cycle-spec =

@@ -2,7 +2,7 @@
 use mathlib.Core.Path.{ap, _∙_}
 use borrow.Author.Needs.{needs}
 use Rattle.turn.specs.Turns.{numbers-at}
-use Rattle.turn.proofs.Tallying.{mug-added}
+use Rattle.turn.proofs.Tallying.{mug-added, growing}
 use Rattle.turn.proofs.Mugging.{mugged}
 use Rattle.turn.proofs.mug_cycle.Statement.{statement}
 use Rattle.turn.proofs.mug_cycle.Tie as tie
@@ -20,7 +20,7 @@ put-requires : tie.Need-put-requires
 put-requires c κs = search needs
 
 add-mug-requires : tie.Need-add-mug-requires
-add-mug-requires c κs = search needs
+add-mug-requires c κs = growing _ _ (c .before .before .before .before .before .pre .1 .room)
 
 returns : tie.Need-returns
 returns c = mugged (c .before .before .before .before .before .before .pre .1) (c .before .before .before .deque-at .ensures) (c .before .put .ensures) (ap (numbers-at _) (c .add-mug .ensures) ∙ mug-added _ _)

@@ -2,7 +2,7 @@
 use mathlib.Core.Path.{ap, _∙_}
 use native.Mathlib.Omega.{arith}
 use Rattle.turn.specs.Turns.{numbers-at}
-use Rattle.turn.proofs.Tallying.{steal-added}
+use Rattle.turn.proofs.Tallying.{steal-added, growing}
 use Rattle.turn.proofs.Stealing.{stolen-nothing, stolen, walk-within}
 use borrow.Author.Needs.{needs}
 use Rattle.turn.proofs.steal_cycle.Statement.{statement}
@@ -12,7 +12,7 @@ deque-at-requires : tie.Need-deque-at-requires
 deque-at-requires c κs = search needs
 
 add-steal-requires : tie.Need-add-steal-requires
-add-steal-requires c κs = search needs
+add-steal-requires c κs = (growing (c .before .before .before .before .pre .0) _ (c .before .before .before .before .pre .1 .room), omega arith)
 
 returns : tie.Need-returns
 returns c = λ m turn. stolen-nothing turn (c .before .before .before .deque-at .ensures) (omega (arith, c .before .if1 .taken)) (ap (numbers-at m) (c .add-steal .ensures) ∙ steal-added 0 m _)
@@ -33,7 +33,7 @@ put-requires-2 : tie.Need-put-requires-2
 put-requires-2 c κs = search needs
 
 add-steal-requires-2 : tie.Need-add-steal-requires-2
-add-steal-requires-2 c κs = search needs
+add-steal-requires-2 c κs = (growing (c .before .before .before .before .before .before .before .before .before .before .before .pre .0) _ (c .before .before .before .before .before .before .before .before .before .before .before .pre .1 .room), omega arith)
 
 returns-2 : tie.Need-returns-2
 returns-2 c = λ m turn.

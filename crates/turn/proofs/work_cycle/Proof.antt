@@ -7,7 +7,7 @@ use lib.ListN.{getD}
 use Rattle.deque.specs.declared.Deque.{Deque}
 use Rattle.deque.specs.View.{size-at}
 use Rattle.turn.specs.Turns.{numbers-at}
-use Rattle.turn.proofs.Tallying.{work-added}
+use Rattle.turn.proofs.Tallying.{work-added, growing}
 use Rattle.turn.proofs.Working.{worker-place, front-inside, releasable, work-done}
 use borrow.Author.Needs.{needs}
 use Rattle.turn.proofs.work_cycle.Statement.{statement}
@@ -60,7 +60,7 @@ put-requires : tie.Need-put-requires
 put-requires c κs = omega (arith, worker-place (c .before .before .before .before .before .before .before .before .before .before .before .pre .1))
 
 add-work-requires : tie.Need-add-work-requires
-add-work-requires c κs = search needs
+add-work-requires c κs = growing (c .before .before .before .before .before .before .before .before .before .before .before .before .pre .0) _ (c .before .before .before .before .before .before .before .before .before .before .before .before .pre .1 .turn .room)
 
 returns : tie.Need-returns
 returns c = λ m turn.
