@@ -69,8 +69,9 @@ module _ {first second pending next ends : List ℕ} {m : Numbers} {w choice : �
 
   -- what shows the model's cycle is sound
   cycled : {pending′ next′ ends′ : List ℕ} {m′ : Numbers} → view pending′ next′ ends′ m′ ≡ cycle plan w choice e → Sizes pending′ next′ ends′ →
-      Kept plan pending′ m′ → Within 1 m m′ → Cycled first second pending next ends m w choice pending′ next′ ends′ m′
-  cycled {pending′} {m′ = m′} shows sizes kept within =
+      Kept plan pending′ m′ → Within 1 m m′ → m′ .waiting + m′ .mugs .0 ≡ m .waiting + m .mugs .0 →
+      Cycled first second pending next ends m w choice pending′ next′ ends′ m′
+  cycled {pending′} {m′ = m′} shows sizes kept within mugged =
       record {
         shows = shows;
         sound =
@@ -84,6 +85,7 @@ module _ {first second pending next ends : List ℕ} {m : Numbers} {w choice : �
               kept = subst (λ (n : ℕ). Kept (graph first second n) pending′ m′) (sym (within .same-tasks)) kept;
             };
         within = within;
+        mugged = mugged;
       }
 
   -- ---- work
@@ -92,8 +94,10 @@ module _ {first second pending next ends : List ℕ} {m : Numbers} {w choice : �
   work-turn q some = record { turn = turn .turn; filled = rw (ap (λ (d : Deque). d .size) q) at some }
 
   pub cycled-work : {d : Deque} {pending′ next′ ends′ : List ℕ} {m′ : Numbers} → d ≡ ends-at ends w → 0 < d .size →
-      Worked first second pending next ends m w pending′ next′ ends′ m′ → Cycled first second pending next ends m w choice pending′ next′ ends′ m′
-  cycled-work q some r =
+      (WorkTurn first second pending next ends m w → Worked first second pending next ends m w pending′ next′ ends′ m′) →
+      Cycled first second pending next ends m w choice pending′ next′ ends′ m′
+  cycled-work q some promised =
+      let r = promised (work-turn q some) in
       let own : deque-of e w ≡ getD ends w 0 ∷ walk next (getD next (getD ends w 0) 0) (getD ends (size-at w) 0 - 1) =
       worker-at next ends (m .workers) w (turn .turn .worker) ∙ deque-at-is next ends w
       ∙ walk-front next (getD ends w 0) (getD ends (size-at w) 0) (work-turn q some .filled) in
@@ -110,6 +114,7 @@ module _ {first second pending next ends : List ℕ} {m : Numbers} {w choice : �
         successes-grew = omega arith;
         usage-grew = omega arith;
       }))
+      (rw (r .numbers) refl)
 
   -- ---- mug and steal: the worker's own deque is empty
 
@@ -155,6 +160,7 @@ module _ {first second pending next ends : List ℕ} {m : Numbers} {w choice : �
         successes-grew = omega arith;
         usage-grew = omega arith;
       }))
+      (rw (r .numbers) (omega arith))
 
   -- the tasks of a worker's deque are tasks of the arrays
   links-inside : Reachable next (getD ends choice 0) (getD ends (size-at choice) 0)
@@ -181,8 +187,9 @@ module _ {first second pending next ends : List ℕ} {m : Numbers} {w choice : �
   no-muggable none = let zero-wait : m .waiting ≡ 0 = omega arith in ap (muggable-view next ends (m .head)) zero-wait ∙ none-shown next ends (m .head)
 
   pub cycled-steal : {d : Deque} {ends′ : List ℕ} {m′ : Numbers} → d ≡ ends-at ends w → d .size ≤ 0 → m .waiting ≤ 0 →
-      Stolen next ends m w choice ends′ m′ → Cycled first second pending next ends m w choice pending next ends′ m′
-  cycled-steal q none idle r =
+      (StealTurn next ends m w choice → Stolen next ends m w choice ends′ m′) → Cycled first second pending next ends m w choice pending next ends′ m′
+  cycled-steal q none idle promised =
+      let r = promised steal-turn in
       let counted = r .numbers .2 in
       let few = r .numbers .1 in
       let here : deque-of e choice ≡ deque-at next ends choice = worker-at next ends (m .workers) choice (turn .chosen) in
@@ -204,3 +211,4 @@ module _ {first second pending next ends : List ℕ} {m : Numbers} {w choice : �
         successes-grew = omega arith;
         usage-grew = omega arith;
       }))
+      (rw counted refl)

@@ -1,5 +1,6 @@
 -- The proofs, by topic.
 pub mod Executions
+pub mod Tallying
 pub mod Mugging
 pub mod Stealing
 pub mod Working

@@ -1,6 +1,6 @@
 -- A tick's cycles: the model's cycles of all workers are those of the workers that are left, from what the arrays show now; and they end
 -- where the job is finished.
-use mathlib.Core.Path.{_≡_, refl, sym, ap, _∙_}
+use mathlib.Core.Path.{_≡_, refl, sym, ap, subst, _∙_}
 use mathlib.Core.Bool.{Bool, true, false}
 use mathlib.Core.List.{List, [], _∷_}
 use Prim.Native.Nat.{ℕ, zero, suc, _+_, _≤_, _<_}
@@ -13,12 +13,14 @@ use borrow.Author.Tests.{ltb-true, eq-eqb, ne-eqb}
 use Rattle.model.specs.Tests.{every}
 use Rattle.model.specs.Plan.{Plan}
 use Rattle.model.specs.Machine.{Execution, finished, cycle, cycles}
-use Rattle.laws.proofs.Lists.{and-left, and-right}
+use Rattle.laws.proofs.Lists.{and-left, and-right, count-set-at-most}
 use Rattle.deque.specs.declared.Numbers.{Numbers}
 use Rattle.deque.specs.View.{worked-view, graph, view}
 use Rattle.deque.specs.Sound.{Kept, Sound, Room, Within}
 use Rattle.deque.proofs.Views.{workers-shown, flags-shown, all-counted}
-use Rattle.turn.specs.Turns.{ChoiceTurn, Cycled, TickTurn, Ticked}
+use Rattle.turn.specs.declared.Tally.{Tally}
+use Rattle.turn.specs.Turns.{numbers-at, cycle-limit, Addable, ChoiceTurn, Cycled, TickTurn, Ticked}
+use Rattle.turn.proofs.Tallying.{none, none-added}
 
 -- what holds of every element holds of the one at a place
 every-place : (test : ℕ → Bool) (xs : List ℕ) (i : ℕ) → every test xs ≡ true → i < length xs → test (getD xs i 0) ≡ true
@@ -50,6 +52,10 @@ finished-is : (plan : Plan) (pending next ends : List ℕ) (m : Numbers) → Kep
 unfolding finished
 finished-is plan pending next ends m kept =
     all-counted (worked-view pending (m .tasks)) ∙ rw (flags-shown pending (m .tasks), kept .done-right)
+
+done-of-tasks : {first second pending next ends : List ℕ} {m : Numbers} → Sound first second pending next ends m → m .done ≤ m .tasks
+done-of-tasks {pending = pending} {m = m} sound =
+    omega (arith, sound .kept .done-right, count-set-at-most (worked-view pending (m .tasks)), flags-shown pending (m .tasks))
 
 -- ---- frames
 
@@ -118,12 +124,18 @@ pub record Underway (first second pending next ends : List ℕ) (m : Numbers) (c
       ≡ cycles (graph first second (m .tasks)) i (drop i choices) (view pending′ next′ ends′ m′)
   pub sound : Sound first second pending′ next′ ends′ m′
   pub within : Within i m m′
+  pub mugged : m′ .waiting + m′ .mugs .0 ≡ m .waiting + m .mugs .0
 
 module _ {first second pending next ends : List ℕ} {m : Numbers} {choices : List ℕ} (tick : TickTurn first second pending next ends m choices) where
-  pub begin : Underway first second pending next ends m choices pending next ends m 0
-  begin = record { part = omega arith; shows = refl; sound = tick .sound; within = within-none m }
+  pub begin : Underway first second pending next ends m choices pending next ends (numbers-at m none) 0
+  begin =
+      subst (λ (m′ : Numbers). Underway first second pending next ends m choices pending next ends m′ 0) (none-added m (tick .sound .kept .head-in-ring))
+      (record { part = omega arith; shows = refl; sound = tick .sound; within = within-none m; mugged = refl })
 
-  few-choices : length choices ≤ 64
+  pub some-left : m .done ≤ m .tasks
+  some-left = done-of-tasks (tick .sound)
+
+  pub few-choices : length choices ≤ 64
   few-choices = omega (arith, tick .one-each, tick .sound .lawful .bounded .workers, workers-shown next ends (m .workers))
 
   module _ {pending′ next′ ends′ : List ℕ} {m′ : Numbers} {i : ℕ} (u : Underway first second pending next ends m choices pending′ next′ ends′ m′ i) where
@@ -135,6 +147,9 @@ module _ {first second pending next ends : List ℕ} {m : Numbers} {choices : Li
 
     done-is : finished e ≡ eqb (m′ .done) (m′ .tasks)
     done-is = finished-is (graph first second (m′ .tasks)) pending′ next′ ends′ m′ (u .sound .kept)
+
+    room-now : Room cycle-limit m′
+    room-now = room-more (omega (arith, u .part, few-choices)) (room-within (tick .room) (u .within))
 
     -- the job is finished, or all workers have had their cycle
     over : cycles plan i (drop i choices) e ≡ e → Ticked first second pending next ends m choices pending′ next′ ends′ m′
@@ -158,7 +173,7 @@ module _ {first second pending next ends : List ℕ} {m : Numbers} {choices : Li
                 record {
                   sound = u .sound;
                   worker = rw (u .within .same-workers, ← tick .one-each) l;
-                  room = room-more (omega (arith, l, few-choices)) (room-within (tick .room) (u .within));
+                  room = room-now;
                 };
             chosen = rw (u .within .same-workers) choice-inside;
           }
@@ -176,4 +191,16 @@ module _ {first second pending next ends : List ℕ} {m : Numbers} {choices : Li
                 ∙ rw (add-one, ← u .within .same-tasks, c .shows);
             sound = c .sound;
             within = within-then (u .within) (c .within);
+            mugged = c .mugged ∙ u .mugged;
           }
+
+  -- the tally can be added
+  pub addable : {pending′ next′ ends′ : List ℕ} {t : Tally} {i : ℕ} → Underway first second pending next ends m choices pending′ next′ ends′ (numbers-at m t) i →
+      Addable m t
+  addable u =
+      record {
+        done-fits = omega (arith, done-of-tasks (u .sound), tick .sound .few-tasks);
+        waited = omega (arith, u .mugged);
+        head = tick .sound .kept .head-in-ring;
+        room = room-now u;
+      }

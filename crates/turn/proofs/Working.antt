@@ -13,7 +13,7 @@ use Rattle.model.specs.Tests.{keep, member, count-set}
 use Rattle.model.specs.Plan.{Plan, tasks, successors-of}
 use Rattle.model.specs.Machine.{Execution, deque-of, ready, completed, released, work-cycle}
 use Rattle.laws.specs.Invariants.{occurrences, Placed}
-use Rattle.laws.proofs.Lists.{true-is-not-false, not-true-is-false, member-is, is-member, no-member, one-deque, count-set-more, count-set-at-most}
+use Rattle.laws.proofs.Lists.{true-is-not-false, not-true-is-false, member-is, is-member, no-member, one-deque, count-set-more}
 use Rattle.laws.proofs.Readiness.{Waits, above, inside, successor-once}
 use Rattle.laws.proofs.Placement.{front-waits, successor-unworked, released-stand-nowhere}
 use Rattle.laws.proofs.Awaiting.{awaits-none, successor-awaits, other-awaits, awaits-at-most}
@@ -181,10 +181,6 @@ module _ {first second pending next ends : List ℕ} {m : Numbers} {w : ℕ} (tu
 
   one-more-worked : count-set (set worked t true) ≡ suc (count-set worked)
   one-more-worked = count-set-more worked t flag (front .unworked)
-
-  pub done-fits : m .done < 1024
-  done-fits =
-      omega (arith, sound .kept .done-right, one-more-worked, count-set-at-most (set worked t true), length-set worked t true, flags-shown pending (m .tasks), sound .few-tasks)
 
   module _ {pending′ next′ ends′ : List ℕ} {after : Deque} {m′ : Numbers}
       (r : AllReleased (set pending t worked-mark) next (getD first t 0) (getD second t 0) rest pending′ next′ after)

@@ -13,6 +13,7 @@ use Rattle.deque.specs.declared.Numbers.{Numbers}
 use Rattle.deque.specs.View.{size-at, deque-at, graph, view}
 use Rattle.deque.specs.Steps.{Reachable}
 use Rattle.deque.specs.Sound.{Sizes, Kept, Sound, Room, Within}
+use Rattle.turn.specs.declared.Tally.{Tally}
 
 -- ---- the numbers after a cycle of each kind
 
@@ -62,6 +63,35 @@ after-steal success m =
       waiting = m .waiting;
     }
 
+-- ---- what the cycles of a tick so far add
+
+abbrev pub add-work : Tally → Tally
+add-work t = record { works = record { 0 = t .works .0 + 1 }; mugs = t .mugs; steals = t .steals; successes = t .successes }
+
+abbrev pub add-mug : Tally → Tally
+add-mug t = record { works = t .works; mugs = record { 0 = t .mugs .0 + 1 }; steals = t .steals; successes = t .successes }
+
+-- with 1 success or 0
+abbrev pub add-steal : ℕ → Tally → Tally
+add-steal success t =
+    record { works = t .works; mugs = t .mugs; steals = record { 0 = t .steals .0 + 1 }; successes = t .successes + success }
+
+-- the numbers of a tick's beginning with what its cycles so far add
+abbrev pub numbers-at : Numbers → Tally → Numbers
+numbers-at m t =
+    record {
+      tasks = m .tasks;
+      workers = m .workers;
+      done = m .done + t .works .0;
+      works = record { 0 = m .works .0 + t .works .0 };
+      mugs = record { 0 = m .mugs .0 + t .mugs .0 };
+      steals = record { 0 = m .steals .0 + t .steals .0 };
+      successes = m .successes + t .successes;
+      usage = m .usage + (t .works .0 + t .mugs .0);
+      head = (m .head + t .mugs .0) % 64;
+      waiting = m .waiting - t .mugs .0;
+    }
+
 -- ---- counts that can still grow
 
 -- no count is above this at the beginning of a tick; 65,535 quanta of 65,535 ticks of 64 workers make fewer than 2 ^ 38 cycles
@@ -71,6 +101,20 @@ count-limit = 2 ^ 63
 -- nor above this before a cycle of the tick
 abbrev pub cycle-limit : ℕ
 cycle-limit = count-limit + 64
+
+-- a tally that can take another cycle
+pub record Growing (t : Tally) : Type 0 where
+  pub works-fit : t .works .0 ≤ cycle-limit
+  pub mugs-fit : t .mugs .0 ≤ cycle-limit
+  pub steals-fit : t .steals .0 ≤ cycle-limit
+  pub successes-fit : t .successes ≤ cycle-limit
+
+-- sums that fit, and no more mugs than muggable deques
+pub record Addable (m : Numbers) (t : Tally) : Type 0 where
+  pub done-fits : m .done + t .works .0 ≤ 1024
+  pub waited : t .mugs .0 ≤ m .waiting
+  pub head : m .head < 64
+  pub room : Room cycle-limit (numbers-at m t)
 
 -- ---- one cycle of each kind
 
@@ -131,6 +175,8 @@ pub record Cycled (first second pending next ends : List ℕ) (m : Numbers) (w c
   pub shows : view pending′ next′ ends′ m′ ≡ cycle (graph first second (m .tasks)) w choice (view pending next ends m)
   pub sound : Sound first second pending′ next′ ends′ m′
   pub within : Within 1 m m′
+  -- each mug takes one of the muggable deques
+  pub mugged : m′ .waiting + m′ .mugs .0 ≡ m .waiting + m .mugs .0
 
 -- ---- a tick's cycles
 

@@ -5,83 +5,93 @@ use deque::Numbers;
 use deque::StealCycles;
 use deque::WorkCycles;
 ghost use mathlib.Core.Path.{_≡_};
-ghost use Prim.Native.Nat.{_+_, _≤_, _<_};
-ghost use Rattle.deque.specs.Sound.{Room};
-ghost use Rattle.turn.specs.Turns.{after-work, after-mug, after-steal, cycle-limit, MugTurn, Mugged, StealTurn, Stolen, WorkTurn, Worked, ChoiceTurn, Cycled, TickTurn, Ticked};
+ghost use Prim.Native.Nat.{_≤_, _<_};
+ghost use Rattle.turn.specs.Turns.{add-work, add-mug, add-steal, numbers-at, Growing, Addable, MugTurn, Mugged, StealTurn, Stolen, WorkTurn, Worked, ChoiceTurn, Cycled, TickTurn, Ticked};
 
-// The numbers after a work cycle.
-fn after_work(m: Numbers) -> Numbers
-    requires { ⌜ (Room cycle-limit m) × (m .done < 1024) ⌝ }
-    ensures { λ r. ⌜ r ≡ after-work m ⌝ }
+// What the cycles of a tick so far add to the numbers.
+pub struct Tally {
+    pub works: WorkCycles,
+    pub mugs: MugCycles,
+    pub steals: StealCycles,
+    pub successes: u64,
+}
+
+// One work cycle more.
+fn add_work(t: Tally) -> Tally
+    requires { ⌜ Growing t ⌝ }
+    ensures { λ r. ⌜ r ≡ add-work t ⌝ }
 {
-    let mugs = m.mugs;
-    let steals = m.steals;
-    Numbers {
-        tasks: m.tasks,
-        workers: m.workers,
-        done: m.done + 1,
-        works: WorkCycles(m.works.0 + 1),
+    let mugs = t.mugs;
+    let steals = t.steals;
+    Tally {
+        works: WorkCycles(t.works.0 + 1),
         mugs: mugs,
         steals: steals,
-        successes: m.successes,
-        usage: m.usage + 1,
-        head: m.head,
-        waiting: m.waiting,
+        successes: t.successes,
     }
 }
 
-// The numbers after a mug cycle.
-fn after_mug(m: Numbers) -> Numbers
-    requires { ⌜ (Room cycle-limit m) × (1 ≤ m .waiting) × (m .head < 64) ⌝ }
-    ensures { λ r. ⌜ r ≡ after-mug m ⌝ }
+// One mug cycle more.
+fn add_mug(t: Tally) -> Tally
+    requires { ⌜ Growing t ⌝ }
+    ensures { λ r. ⌜ r ≡ add-mug t ⌝ }
 {
-    let works = m.works;
-    let steals = m.steals;
-    let usage = m.usage + 1;
+    let works = t.works;
+    let steals = t.steals;
+    Tally {
+        works: works,
+        mugs: MugCycles(t.mugs.0 + 1),
+        steals: steals,
+        successes: t.successes,
+    }
+}
+
+// One steal cycle more, with 1 success or 0.
+fn add_steal(t: Tally, success: u64) -> Tally
+    requires { ⌜ (Growing t) × (success ≤ 1) ⌝ }
+    ensures { λ r. ⌜ r ≡ add-steal success t ⌝ }
+{
+    let works = t.works;
+    let mugs = t.mugs;
+    Tally {
+        works: works,
+        mugs: mugs,
+        steals: StealCycles(t.steals.0 + 1),
+        successes: t.successes + success,
+    }
+}
+
+// The numbers of a tick's beginning with what its cycles add.
+fn numbers_at(m: Numbers, t: Tally) -> Numbers
+    requires { ⌜ Addable m t ⌝ }
+    ensures { λ r. ⌜ r ≡ numbers-at m t ⌝ }
+{
+    let usage = m.usage + (t.works.0 + t.mugs.0);
+    let mugged = t.mugs.0 as usize;
     Numbers {
         tasks: m.tasks,
         workers: m.workers,
-        done: m.done,
-        works: works,
-        mugs: MugCycles(m.mugs.0 + 1),
-        steals: steals,
-        successes: m.successes,
+        done: m.done + t.works.0 as u16,
+        works: WorkCycles(m.works.0 + t.works.0),
+        mugs: MugCycles(m.mugs.0 + t.mugs.0),
+        steals: StealCycles(m.steals.0 + t.steals.0),
+        successes: m.successes + t.successes,
         usage: usage,
-        head: (m.head + 1) % 64,
-        waiting: m.waiting - 1,
-    }
-}
-
-// The numbers after a steal cycle, with 1 success or 0.
-fn after_steal(m: Numbers, success: u64) -> Numbers
-    requires { ⌜ (Room cycle-limit m) × (success ≤ 1) ⌝ }
-    ensures { λ r. ⌜ r ≡ after-steal success m ⌝ }
-{
-    let works = m.works;
-    let mugs = m.mugs;
-    Numbers {
-        tasks: m.tasks,
-        workers: m.workers,
-        done: m.done,
-        works: works,
-        mugs: mugs,
-        steals: StealCycles(m.steals.0 + 1),
-        successes: m.successes + success,
-        usage: m.usage,
-        head: m.head,
-        waiting: m.waiting,
+        head: (m.head + mugged) % 64,
+        waiting: m.waiting - mugged,
     }
 }
 
 // A mug cycle: the oldest muggable deque becomes the worker's own, whole.
-pub fn mug_cycle(ends: &mut [u16; 256], w: usize, m: Numbers) -> Numbers
-    requires { ⌜ MugTurn (now ends) m w ⌝ }
-    ensures { λ r. ⌜ Mugged (now (ends .entry)) m w (now (ends .exit)) r ⌝ }
+pub fn mug_cycle(ends: &mut [u16; 256], w: usize, m: Numbers, t: Tally) -> Tally
+    requires { ⌜ (m .head < 64) × MugTurn (now ends) (numbers-at m t) w ⌝ }
+    ensures { λ r. ⌜ Mugged (now (ends .entry)) (numbers-at m t) w (now (ends .exit)) (numbers-at m r) ⌝ }
 {
-    let place = 64 + m.head;
+    let mugged = t.mugs.0 as usize;
+    let place = 64 + (m.head + mugged) % 64;
     let oldest = deque::deque_at(ends, place);
     deque::put(ends, w, oldest);
-    after_mug(m)
+    add_mug(t)
 }
 
 // A steal cycle: of a deque of two or more tasks the back part becomes the thief's deque; of any other nothing moves.
@@ -90,14 +100,14 @@ pub fn steal_cycle(
     ends: &mut [u16; 256],
     w: usize,
     choice: usize,
-    m: Numbers,
-) -> Numbers
-    requires { ⌜ StealTurn (now next) (now ends) m w choice ⌝ }
-    ensures { λ r. ⌜ Stolen (now (next .entry)) (now (ends .entry)) m w choice (now (ends .exit)) r ⌝ }
+    t: Tally,
+) -> Tally
+    requires { ⌜ ((m : Numbers) × StealTurn (now next) (now ends) (numbers-at m t) w choice) ⌝ }
+    ensures { λ r. ⌜ ((m : Numbers) → StealTurn (now (next .entry)) (now (ends .entry)) (numbers-at m t) w choice → Stolen (now (next .entry)) (now (ends .entry)) (numbers-at m t) w choice (now (ends .exit)) (numbers-at m r)) ⌝ }
 {
     let victim = deque::deque_at(ends, choice);
     if victim.size < 2 {
-        return after_steal(m, 0);
+        return add_steal(t, 0);
     }
     let taken = deque::stolen_count(victim.size);
     let left = victim.size - taken;
@@ -118,7 +128,7 @@ pub fn steal_cycle(
             size: taken,
         },
     );
-    after_steal(m, 1)
+    add_steal(t, 1)
 }
 
 // A work cycle: the front task of the worker's deque is worked and leaves, and its successors that became ready take its place.
@@ -129,10 +139,10 @@ pub fn work_cycle(
     next: &mut [u16; 1024],
     ends: &mut [u16; 256],
     w: usize,
-    m: Numbers,
-) -> Numbers
-    requires { ⌜ WorkTurn (now first) (now second) (now pending) (now next) (now ends) m w ⌝ }
-    ensures { λ r. ⌜ Worked (now (first .entry)) (now (second .entry)) (now (pending .entry)) (now (next .entry)) (now (ends .entry)) m w (now (pending .exit)) (now (next .exit)) (now (ends .exit)) r ⌝ }
+    t: Tally,
+) -> Tally
+    requires { ⌜ ((m : Numbers) × WorkTurn (now first) (now second) (now pending) (now next) (now ends) (numbers-at m t) w) ⌝ }
+    ensures { λ r. ⌜ ((m : Numbers) → WorkTurn (now (first .entry)) (now (second .entry)) (now (pending .entry)) (now (next .entry)) (now (ends .entry)) (numbers-at m t) w → Worked (now (first .entry)) (now (second .entry)) (now (pending .entry)) (now (next .entry)) (now (ends .entry)) (numbers-at m t) w (now (pending .exit)) (now (next .exit)) (now (ends .exit)) (numbers-at m r)) ⌝ }
 {
     let own = deque::deque_at(ends, w);
     let task = deque::wide(own.front);
@@ -145,7 +155,7 @@ pub fn work_cycle(
     let two = second[task];
     let after = deque::release_successors(pending, next, one, two, rest);
     deque::put(ends, w, after);
-    after_work(m)
+    add_work(t)
 }
 
 // One cycle of the worker `w`: it works if its deque is not empty, else mugs if a muggable deque waits, else steals from `choice`.
@@ -158,18 +168,20 @@ pub fn cycle(
     w: usize,
     choice: usize,
     m: Numbers,
-) -> Numbers
-    requires { ⌜ ChoiceTurn (now first) (now second) (now pending) (now next) (now ends) m w choice ⌝ }
-    ensures { λ r. ⌜ Cycled (now (first .entry)) (now (second .entry)) (now (pending .entry)) (now (next .entry)) (now (ends .entry)) m w choice (now (pending .exit)) (now (next .exit)) (now (ends .exit)) r ⌝ }
+    t: Tally,
+) -> Tally
+    requires { ⌜ (m .head < 64) × ChoiceTurn (now first) (now second) (now pending) (now next) (now ends) (numbers-at m t) w choice ⌝ }
+    ensures { λ r. ⌜ Cycled (now (first .entry)) (now (second .entry)) (now (pending .entry)) (now (next .entry)) (now (ends .entry)) (numbers-at m t) w choice (now (pending .exit)) (now (next .exit)) (now (ends .exit)) (numbers-at m r) ⌝ }
 {
     let own = deque::deque_at(ends, w);
     if own.size > 0 {
-        return work_cycle(first, second, pending, next, ends, w, m);
+        return work_cycle(first, second, pending, next, ends, w, t);
     }
-    if m.waiting > 0 {
-        return mug_cycle(ends, w, m);
+    let mugged = t.mugs.0 as usize;
+    if mugged < m.waiting {
+        return mug_cycle(ends, w, m, t);
     }
-    steal_cycle(next, ends, w, choice, m)
+    steal_cycle(next, ends, w, choice, t)
 }
 
 // The cycles of a tick: the workers in number order, one cycle each, with a choice each, until the job is finished.
@@ -185,15 +197,21 @@ pub fn cycles(
     requires { ⌜ TickTurn (now first) (now second) (now pending) (now next) (now ends) m (now choices) ⌝ }
     ensures { λ r. ⌜ Ticked (now (first .entry)) (now (second .entry)) (now (pending .entry)) (now (next .entry)) (now (ends .entry)) m (now (choices .entry)) (now (pending .exit)) (now (next .exit)) (now (ends .exit)) r ⌝ }
 {
-    let mut after = m;
+    let left = (m.tasks - m.done) as u64;
+    let mut t = Tally {
+        works: WorkCycles(0),
+        mugs: MugCycles(0),
+        steals: StealCycles(0),
+        successes: 0,
+    };
     let mut w = 0;
     while w < choices.len() {
-        if after.done == after.tasks {
-            return after;
+        if t.works.0 == left {
+            return numbers_at(m, t);
         }
         let choice = choices[w] as usize;
-        after = cycle(first, second, pending, next, ends, w, choice, after);
+        t = cycle(first, second, pending, next, ends, w, choice, m, t);
         w += 1;
     }
-    after
+    numbers_at(m, t)
 }

@@ -1,5 +1,8 @@
 -- `turn::mug_cycle` meets its contract.
+use mathlib.Core.Path.{ap, _∙_}
 use borrow.Author.Needs.{needs}
+use Rattle.turn.specs.Turns.{numbers-at}
+use Rattle.turn.proofs.Tallying.{mug-added, growing}
 use Rattle.turn.proofs.Mugging.{mugged}
 use Rattle.turn.proofs.mug_cycle.Statement.{statement}
 use Rattle.turn.proofs.mug_cycle.Tie as tie
@@ -7,18 +10,21 @@ use Rattle.turn.proofs.mug_cycle.Tie as tie
 add-place : tie.Need-add-place
 add-place c = search needs
 
+add-place-2 : tie.Need-add-place-2
+add-place-2 c = search needs
+
 deque-at-requires : tie.Need-deque-at-requires
 deque-at-requires c κs = search needs
 
 put-requires : tie.Need-put-requires
 put-requires c κs = search needs
 
-after-mug-requires : tie.Need-after-mug-requires
-after-mug-requires c κs = search needs
+add-mug-requires : tie.Need-add-mug-requires
+add-mug-requires c κs = growing _ _ (c .before .before .before .before .before .pre .1 .room)
 
 returns : tie.Need-returns
-returns c = mugged (c .before .before .before .before .before .before .pre) (c .before .before .before .deque-at .ensures) (c .before .put .ensures) (c .after-mug .ensures)
+returns c = mugged (c .before .before .before .before .before .before .pre .1) (c .before .before .before .deque-at .ensures) (c .before .put .ensures) (ap (numbers-at _) (c .add-mug .ensures) ∙ mug-added _ _)
 
 pub mug-cycle-spec : {M : Type 1} → statement M
 mug-cycle-spec =
-    tie.close (tie.spec add-place deque-at-requires put-requires after-mug-requires returns)
+    tie.close (tie.spec add-place add-place-2 deque-at-requires put-requires add-mug-requires returns)

@@ -6,13 +6,15 @@ use denote.Ref.{now}
 use lib.ListN.{getD}
 use Rattle.deque.specs.declared.Deque.{Deque}
 use Rattle.deque.specs.View.{size-at}
-use Rattle.turn.proofs.Working.{worker-place, front-inside, releasable, done-fits, work-done}
+use Rattle.turn.specs.Turns.{numbers-at}
+use Rattle.turn.proofs.Tallying.{work-added, growing}
+use Rattle.turn.proofs.Working.{worker-place, front-inside, releasable, work-done}
 use borrow.Author.Needs.{needs}
 use Rattle.turn.proofs.work_cycle.Statement.{statement}
 use Rattle.turn.proofs.work_cycle.Tie as tie
 
 deque-at-requires : tie.Need-deque-at-requires
-deque-at-requires c κs = omega (arith, worker-place (c .before .pre))
+deque-at-requires c κs = omega (arith, worker-place (c .before .pre .1))
 
 wide-requires : tie.Need-wide-requires
 wide-requires c κs = search needs
@@ -25,7 +27,7 @@ size : (c : tie.After-deque-at) → c .deque-at .result .size ≡ getD (now (c .
 size c = ap (λ (d : Deque). d .size) (c .deque-at .ensures)
 
 task-inside : (c : tie.After-wide) → c .wide .result < 1024
-task-inside c = rw (task c) (front-inside (c .before .before .before .pre))
+task-inside c = rw (task c) (front-inside (c .before .before .before .pre .1))
 
 mul-two : tie.Need-mul-two
 mul-two c = search needs
@@ -34,7 +36,7 @@ element-copy-out-two : tie.Need-element-copy-out-two
 element-copy-out-two c = task-inside c
 
 sub-one : tie.Need-sub-one
-sub-one c = rw (size (c .before .before .before)) (c .before .before .before .before .before .pre .filled)
+sub-one c = rw (size (c .before .before .before)) (c .before .before .before .before .before .pre .1 .filled)
 
 element-write-pending : tie.Need-element-write-pending
 element-write-pending c = task-inside (c .before .before)
@@ -52,20 +54,20 @@ element-copy-out-two-2 : tie.Need-element-copy-out-two-2
 element-copy-out-two-2 c = task-inside (c .before .before .before)
 
 release-successors-requires : tie.Need-release-successors-requires
-release-successors-requires c κs = rw (task (c .before .before .before .before .before .before), size (c .before .before .before .before .before .before .before)) (releasable (c .before .before .before .before .before .before .before .before .before .pre) _)
+release-successors-requires c κs = rw (task (c .before .before .before .before .before .before), size (c .before .before .before .before .before .before .before)) (releasable (c .before .before .before .before .before .before .before .before .before .pre .1) _)
 
 put-requires : tie.Need-put-requires
-put-requires c κs = omega (arith, worker-place (c .before .before .before .before .before .before .before .before .before .before .before .pre))
+put-requires c κs = omega (arith, worker-place (c .before .before .before .before .before .before .before .before .before .before .before .pre .1))
 
-after-work-requires : tie.Need-after-work-requires
-after-work-requires c κs = (c .before .before .before .before .before .before .before .before .before .before .before .before .pre .turn .room, done-fits (c .before .before .before .before .before .before .before .before .before .before .before .before .pre))
+add-work-requires : tie.Need-add-work-requires
+add-work-requires c κs = growing (c .before .before .before .before .before .before .before .before .before .before .before .before .pre .0) _ (c .before .before .before .before .before .before .before .before .before .before .before .before .pre .1 .turn .room)
 
 returns : tie.Need-returns
-returns c =
-    work-done (c .before .before .before .before .before .before .before .before .before .before .before .before .before .pre)
+returns c = λ m turn.
+    work-done turn
     (rw (task (c .before .before .before .before .before .before .before .before .before .before), size (c .before .before .before .before .before .before .before .before .before .before .before)) at (c .before .before .before .release-successors .ensures))
     (c .before .put .ensures)
-    (c .after-work .ensures)
+    (ap (numbers-at m) (c .add-work .ensures) ∙ work-added m _)
 
 pub work-cycle-spec : {M : Type 1} → statement M
 work-cycle-spec =
@@ -83,5 +85,5 @@ work-cycle-spec =
     element-copy-out-two-2
     release-successors-requires
     put-requires
-    after-work-requires
+    add-work-requires
     returns)
