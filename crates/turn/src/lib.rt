@@ -5,14 +5,13 @@ use deque::Numbers;
 use deque::StealCycles;
 use deque::WorkCycles;
 ghost use mathlib.Core.Path.{_≡_};
-ghost use Prim.Native.Nat.{_≤_, _<_};
-ghost use Rattle.turn.specs.Turns.{add-work, add-mug, add-steal, numbers-at, Growing, Addable, MugTurn, Mugged, StealTurn, Stolen, WorkTurn, Worked, ChoiceTurn, Cycled, TickTurn, Ticked};
+ghost use Prim.Native.Nat.{_+_, _≤_, _<_};
+ghost use Rattle.turn.specs.Turns.{add-work, add-mug, add-steal, numbers-at, Counted, Growing, Addable, MugTurn, Mugged, StealTurn, Stolen, WorkTurn, Worked, ChoiceTurn, Cycled, TickTurn, Ticked};
 
 // What the cycles of a tick so far add to the numbers.
 pub struct Tally {
     pub works: WorkCycles,
     pub mugs: MugCycles,
-    pub steals: StealCycles,
     pub successes: u64,
 }
 
@@ -22,11 +21,9 @@ fn add_work(t: Tally) -> Tally
     ensures { λ r. ⌜ r ≡ add-work t ⌝ }
 {
     let mugs = t.mugs;
-    let steals = t.steals;
     Tally {
         works: WorkCycles(t.works.0 + 1),
         mugs: mugs,
-        steals: steals,
         successes: t.successes,
     }
 }
@@ -37,11 +34,9 @@ fn add_mug(t: Tally) -> Tally
     ensures { λ r. ⌜ r ≡ add-mug t ⌝ }
 {
     let works = t.works;
-    let steals = t.steals;
     Tally {
         works: works,
         mugs: MugCycles(t.mugs.0 + 1),
-        steals: steals,
         successes: t.successes,
     }
 }
@@ -56,17 +51,18 @@ fn add_steal(t: Tally, success: u64) -> Tally
     Tally {
         works: works,
         mugs: mugs,
-        steals: StealCycles(t.steals.0 + 1),
         successes: t.successes + success,
     }
 }
 
-// The numbers of a tick's beginning with what its cycles add.
-fn numbers_at(m: Numbers, t: Tally) -> Numbers
-    requires { ⌜ Addable m t ⌝ }
-    ensures { λ r. ⌜ r ≡ numbers-at m t ⌝ }
+// The numbers of a tick's beginning with what so many cycles add. Every cycle is of one kind: those that were neither work nor mug cycles were
+// steal cycles, so that the loop need not count them.
+fn numbers_at(m: Numbers, cycles: usize, t: Tally) -> Numbers
+    requires { ⌜ Addable m cycles t ⌝ }
+    ensures { λ r. ⌜ r ≡ numbers-at m cycles t ⌝ }
 {
-    let usage = m.usage + (t.works.0 + t.mugs.0);
+    let used = t.works.0 + t.mugs.0;
+    let usage = m.usage + used;
     let mugged = t.mugs.0 as usize;
     Numbers {
         tasks: m.tasks,
@@ -74,7 +70,7 @@ fn numbers_at(m: Numbers, t: Tally) -> Numbers
         done: m.done + t.works.0 as u16,
         works: WorkCycles(m.works.0 + t.works.0),
         mugs: MugCycles(m.mugs.0 + t.mugs.0),
-        steals: StealCycles(m.steals.0 + t.steals.0),
+        steals: StealCycles(m.steals.0 + cycles as u64 - used),
         successes: m.successes + t.successes,
         usage: usage,
         head: (m.head + mugged) % 64,
@@ -84,8 +80,8 @@ fn numbers_at(m: Numbers, t: Tally) -> Numbers
 
 // A mug cycle: the oldest muggable deque becomes the worker's own, whole.
 pub fn mug_cycle(ends: &mut [u16; 256], w: usize, m: Numbers, t: Tally) -> Tally
-    requires { ⌜ (m .head < 64) × MugTurn (now ends) (numbers-at m t) w ⌝ }
-    ensures { λ r. ⌜ Mugged (now (ends .entry)) (numbers-at m t) w (now (ends .exit)) (numbers-at m r) ⌝ }
+    requires { ⌜ (m .head < 64) × MugTurn (now ends) (numbers-at m w t) w ⌝ }
+    ensures { λ r. ⌜ Mugged (now (ends .entry)) (numbers-at m w t) w (now (ends .exit)) (numbers-at m (w + 1) r) ⌝ }
 {
     let mugged = t.mugs.0 as usize;
     let place = 64 + (m.head + mugged) % 64;
@@ -102,8 +98,8 @@ pub fn steal_cycle(
     choice: usize,
     t: Tally,
 ) -> Tally
-    requires { ⌜ ((m : Numbers) × StealTurn (now next) (now ends) (numbers-at m t) w choice) ⌝ }
-    ensures { λ r. ⌜ ((m : Numbers) → StealTurn (now (next .entry)) (now (ends .entry)) (numbers-at m t) w choice → Stolen (now (next .entry)) (now (ends .entry)) (numbers-at m t) w choice (now (ends .exit)) (numbers-at m r)) ⌝ }
+    requires { ⌜ ((m : Numbers) × StealTurn (now next) (now ends) (numbers-at m w t) w choice) ⌝ }
+    ensures { λ r. ⌜ ((m : Numbers) → Counted m w t → StealTurn (now (next .entry)) (now (ends .entry)) (numbers-at m w t) w choice → Stolen (now (next .entry)) (now (ends .entry)) (numbers-at m w t) w choice (now (ends .exit)) (numbers-at m (w + 1) r)) ⌝ }
 {
     let victim = deque::deque_at(ends, choice);
     if victim.size < 2 {
@@ -141,8 +137,8 @@ pub fn work_cycle(
     w: usize,
     t: Tally,
 ) -> Tally
-    requires { ⌜ ((m : Numbers) × WorkTurn (now first) (now second) (now pending) (now next) (now ends) (numbers-at m t) w) ⌝ }
-    ensures { λ r. ⌜ ((m : Numbers) → WorkTurn (now (first .entry)) (now (second .entry)) (now (pending .entry)) (now (next .entry)) (now (ends .entry)) (numbers-at m t) w → Worked (now (first .entry)) (now (second .entry)) (now (pending .entry)) (now (next .entry)) (now (ends .entry)) (numbers-at m t) w (now (pending .exit)) (now (next .exit)) (now (ends .exit)) (numbers-at m r)) ⌝ }
+    requires { ⌜ ((m : Numbers) × WorkTurn (now first) (now second) (now pending) (now next) (now ends) (numbers-at m w t) w) ⌝ }
+    ensures { λ r. ⌜ ((m : Numbers) → WorkTurn (now (first .entry)) (now (second .entry)) (now (pending .entry)) (now (next .entry)) (now (ends .entry)) (numbers-at m w t) w → Worked (now (first .entry)) (now (second .entry)) (now (pending .entry)) (now (next .entry)) (now (ends .entry)) (numbers-at m w t) w (now (pending .exit)) (now (next .exit)) (now (ends .exit)) (numbers-at m (w + 1) r)) ⌝ }
 {
     let own = deque::deque_at(ends, w);
     let task = deque::wide(own.front);
@@ -170,8 +166,8 @@ pub fn cycle(
     m: Numbers,
     t: Tally,
 ) -> Tally
-    requires { ⌜ (m .head < 64) × ChoiceTurn (now first) (now second) (now pending) (now next) (now ends) (numbers-at m t) w choice ⌝ }
-    ensures { λ r. ⌜ Cycled (now (first .entry)) (now (second .entry)) (now (pending .entry)) (now (next .entry)) (now (ends .entry)) (numbers-at m t) w choice (now (pending .exit)) (now (next .exit)) (now (ends .exit)) (numbers-at m r) ⌝ }
+    requires { ⌜ (m .head < 64) × Counted m w t × ChoiceTurn (now first) (now second) (now pending) (now next) (now ends) (numbers-at m w t) w choice ⌝ }
+    ensures { λ r. ⌜ Cycled (now (first .entry)) (now (second .entry)) (now (pending .entry)) (now (next .entry)) (now (ends .entry)) (numbers-at m w t) w choice (now (pending .exit)) (now (next .exit)) (now (ends .exit)) (numbers-at m (w + 1) r) ⌝ }
 {
     let own = deque::deque_at(ends, w);
     if own.size > 0 {
@@ -201,17 +197,16 @@ pub fn cycles(
     let mut t = Tally {
         works: WorkCycles(0),
         mugs: MugCycles(0),
-        steals: StealCycles(0),
         successes: 0,
     };
     let mut w = 0;
     while w < choices.len() {
         if t.works.0 == left {
-            return numbers_at(m, t);
+            return numbers_at(m, w, t);
         }
         let choice = choices[w] as usize;
         t = cycle(first, second, pending, next, ends, w, choice, m, t);
         w += 1;
     }
-    numbers_at(m, t)
+    numbers_at(m, w, t)
 }

@@ -4,13 +4,13 @@ use Prim.Native.Nat.{_-_}
 use native.Mathlib.Omega.{arith}
 use lib.ListN.{length}
 use Rattle.turn.specs.Turns.{numbers-at}
-use Rattle.turn.proofs.Ticking.{Underway, begin, some-left, few-choices, tick-finished, tick-over, next-turn, onward, addable}
+use Rattle.turn.proofs.Ticking.{Underway, begin, some-left, few-choices, tick-finished, tick-over, next-turn, onward, counted, addable}
 use Rattle.turn.proofs.cycles.Statement.{statement}
 use Rattle.turn.proofs.cycles.Tie as tie
 
 abbrev Inv-loop : tie.InvT-loop
 Inv-loop first second pending₀ next₀ ends₀ choices m left t₀ w₀ pending next ends t w =
-    Underway first second pending₀ next₀ ends₀ m choices pending next ends (numbers-at m t) w
+    Underway first second pending₀ next₀ ends₀ m choices pending next ends (numbers-at m w t) w
 
 abbrev μ-loop : tie.MeasureT-loop
 μ-loop first second pending₀ next₀ ends₀ choices m left t₀ w₀ pending next ends t w = length choices - w
@@ -25,7 +25,7 @@ loop-holds : tie.Need-loop-holds Inv-loop μ-loop
 loop-holds c = begin (c .before .before .pre)
 
 numbers-at-requires : tie.Need-numbers-at-requires Inv-loop μ-loop
-numbers-at-requires c κs = addable (c .before .before .before .before .before .before .pre) (c .before .before .before .loop .inv)
+numbers-at-requires c κs = addable (c .before .before .before .before .before .before .pre) (c .before .before .before .loop .t) (c .before .before .before .loop .inv)
 
 returns : tie.Need-returns Inv-loop μ-loop
 returns c = rw (c .numbers-at .ensures) (tick-finished (c .before .before .before .before .before .before .before .pre) (c .before .before .before .before .loop .inv) (omega (arith, some-left (c .before .before .before .before .before .before .before .pre), c .before .if1 .taken)))
@@ -37,7 +37,7 @@ cast-choice : tie.Need-cast-choice Inv-loop μ-loop
 cast-choice c = omega (arith, c .shared-slice-known2 .given (c .before .before .before .before .loop .w))
 
 cycle-requires : tie.Need-cycle-requires Inv-loop μ-loop
-cycle-requires c κs = (c .before .before .before .before .before .before .before .before .before .before .pre .sound .kept .head-in-ring, next-turn (c .before .before .before .before .before .before .before .before .before .before .pre) (c .before .before .before .before .before .before .before .loop .inv) (c .before .before .before .before .before .before .loop-test .taken))
+cycle-requires c κs = (c .before .before .before .before .before .before .before .before .before .before .pre .sound .kept .head-in-ring, counted (c .before .before .before .before .before .before .before .before .before .before .pre) (c .before .before .before .before .before .before .before .loop .t) (c .before .before .before .before .before .before .before .loop .inv), next-turn (c .before .before .before .before .before .before .before .before .before .before .pre) (c .before .before .before .before .before .before .before .loop .inv) (c .before .before .before .before .before .before .loop-test .taken))
 
 add-w : tie.Need-add-w Inv-loop μ-loop
 add-w c = omega (arith, c .before .before .before .before .before .before .before .loop-test .taken, few-choices (c .before .before .before .before .before .before .before .before .before .before .before .pre))
@@ -49,7 +49,7 @@ loop-again : tie.Need-loop-again Inv-loop μ-loop
 loop-again c = onward (c .before .before .before .before .before .before .before .before .before .before .before .pre) (c .before .before .before .before .before .before .before .before .loop .inv) (c .before .before .before .before .before .before .before .loop-test .taken) (λ all. c .before .before .before .before .before .if1 .left (omega (arith, all))) (c .cycle .ensures)
 
 numbers-at-requires-2 : tie.Need-numbers-at-requires-2 Inv-loop μ-loop
-numbers-at-requires-2 c κs = addable (c .before .before .before .before .pre) (c .before .loop .inv)
+numbers-at-requires-2 c κs = addable (c .before .before .before .before .pre) (c .before .loop .t) (c .before .loop .inv)
 
 returns-2 : tie.Need-returns-2 Inv-loop μ-loop
 returns-2 c = rw (c .numbers-at2 .ensures) (tick-over (c .before .before .before .before .before .pre) (c .before .before .loop .inv) (c .before .loop-test .left))

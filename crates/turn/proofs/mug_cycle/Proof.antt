@@ -20,10 +20,10 @@ put-requires : tie.Need-put-requires
 put-requires c κs = search needs
 
 add-mug-requires : tie.Need-add-mug-requires
-add-mug-requires c κs = growing _ _ (c .before .before .before .before .before .pre .1 .room)
+add-mug-requires c κs = growing _ _ _ (c .before .before .before .before .before .pre .1 .room)
 
 returns : tie.Need-returns
-returns c = mugged (c .before .before .before .before .before .before .pre .1) (c .before .before .before .deque-at .ensures) (c .before .put .ensures) (ap (numbers-at _) (c .add-mug .ensures) ∙ mug-added _ _)
+returns c = mugged (c .before .before .before .before .before .before .pre .1) (c .before .before .before .deque-at .ensures) (c .before .put .ensures) (ap (numbers-at _ _) (c .add-mug .ensures) ∙ mug-added _ _ _)
 
 pub mug-cycle-spec : {M : Type 1} → statement M
 mug-cycle-spec =
