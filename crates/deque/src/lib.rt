@@ -78,19 +78,25 @@ pub fn ahead(next: &[u16; 1024], front: u16, steps: u16) -> u16
 }
 
 // A predecessor of `task` was worked. If it was the last one that `task` awaited, `task` goes to the front of the deque. An unused field,
-// 0, is no task.
+// 0, is no task. A deque that stays is made anew from its parts: as a whole it would travel packed in one word.
 pub fn release(pending: &mut [u8; 1024], next: &mut [u16; 1024], task: u16, deque: Deque) -> Deque
     requires { ⌜ Releasable (now pending) (now next) task deque ⌝ }
     ensures { λ r. ⌜ Released (now (pending .entry)) (now (next .entry)) task deque (now (pending .exit)) (now (next .exit)) r ⌝ }
 {
     let at = wide(task);
     if at == 0 {
-        return deque;
+        return Deque {
+            front: deque.front,
+            size: deque.size,
+        };
     }
     let awaited = pending[at];
     pending[at] = awaited - 1;
     if awaited > 1 {
-        return deque;
+        return Deque {
+            front: deque.front,
+            size: deque.size,
+        };
     }
     next[at] = deque.front;
     Deque {
@@ -112,7 +118,10 @@ pub fn release_successors(
     ensures { λ r. ⌜ AllReleased (now (pending .entry)) (now (next .entry)) one two deque (now (pending .exit)) (now (next .exit)) r ⌝ }
 {
     if one == 0 {
-        return deque;
+        return Deque {
+            front: deque.front,
+            size: deque.size,
+        };
     }
     let with_second = release(pending, next, two, deque);
     release(pending, next, one, with_second)
