@@ -61,18 +61,19 @@ fn numbers_at(m: Numbers, cycles: usize, t: Tally) -> Numbers
     requires { ⌜ Addable m cycles t ⌝ }
     ensures { λ r. ⌜ r ≡ numbers-at m cycles t ⌝ }
 {
-    let used = t.works.0 + t.mugs.0;
-    let usage = m.usage + used;
-    let mugged = t.mugs.0 as usize;
+    let works = t.works.0;
+    let mugs = t.mugs.0;
+    let used = works + mugs;
+    let mugged = mugs as usize;
     Numbers {
         tasks: m.tasks,
         workers: m.workers,
-        done: m.done + t.works.0 as u16,
-        works: WorkCycles(m.works.0 + t.works.0),
-        mugs: MugCycles(m.mugs.0 + t.mugs.0),
+        done: m.done + works as u16,
+        works: WorkCycles(m.works.0 + works),
+        mugs: MugCycles(m.mugs.0 + mugs),
         steals: StealCycles(m.steals.0 + cycles as u64 - used),
         successes: m.successes + t.successes,
-        usage: usage,
+        usage: m.usage + used,
         head: (m.head + mugged) % 64,
         waiting: m.waiting - mugged,
     }
