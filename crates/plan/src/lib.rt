@@ -6,7 +6,7 @@ ghost use Rattle.model.specs.Tests.{below, every};
 ghost use Rattle.model.specs.Questions.{first-no, answer-number};
 ghost use Rattle.plan.specs.Answers.{answer-of, passes};
 ghost use Rattle.plan.specs.Contracts.{HeaderOf, five-bytes, TaskOf, three-bytes, field-questions, pair-questions, noted, Due, TaskRead, TasksRead, one-or-two, followed, HeaderRead};
-ghost use Rattle.plan.specs.Promise.{blank, RightReading};
+ghost use Rattle.plan.specs.Promise.{blank, no-heading, RightReading, RightHeading};
 
 // One case for each number of the paper, which answer-of gives.
 pub enum PlanAnswer {
@@ -39,6 +39,15 @@ pub struct PlanRecord {
 pub struct Reading {
     pub answer: PlanAnswer,
     pub plan: PlanRecord,
+}
+
+// The answer, and the plan's numbers where it is Accepted; zeros beside a refusal.
+pub struct Heading {
+    pub answer: PlanAnswer,
+    pub responsiveness: u8,
+    pub utilization: u8,
+    pub quantum_length: u16,
+    pub tasks: u16,
 }
 
 // The header's fields, with the number of tasks itself and not one less.
@@ -281,8 +290,75 @@ fn one_exit(n: usize, first: &[u16; 1024]) -> bool
     true
 }
 
+// No plan: zeros stand beside the answer.
+fn refusal(answer: PlanAnswer) -> Heading
+    ensures { λ r. ⌜ r ≡ no-heading answer ⌝ }
+{
+    Heading {
+        answer,
+        responsiveness: 0,
+        utilization: 0,
+        quantum_length: 0,
+        tasks: 0,
+    }
+}
+
+// The tasks and then the graph, after an accepted header.
+fn read_graph(
+    bytes: &[u8],
+    h: Header,
+    first: &mut [u16; 1024],
+    second: &mut [u16; 1024],
+    predecessors: &mut [u8; 1024],
+) -> Heading
+    requires { ⌜ HeaderRead (now bytes) h ⌝ }
+    ensures { λ r. ⌜ RightHeading (now (bytes .entry)) r (now (first .exit)) (now (second .exit)) (now (predecessors .exit)) ⌝ }
+{
+    let n = h.tasks;
+    *first = [0u16; 1024];
+    *second = [0u16; 1024];
+    *predecessors = [0u8; 1024];
+    let answer = read_tasks(bytes, n, first, second, predecessors);
+    if !passed(answer) {
+        return refusal(answer);
+    }
+    if !all_preceded(n, predecessors) {
+        return refusal(PlanAnswer::BadPredecessors);
+    }
+    if !one_exit(n, first) {
+        return refusal(PlanAnswer::LooseEnd);
+    }
+    Heading {
+        answer: PlanAnswer::Accepted,
+        responsiveness: h.responsiveness as u8,
+        utilization: h.utilization as u8,
+        quantum_length: h.quantum as u16,
+        tasks: n as u16,
+    }
+}
+
+// The plan of any bytes, its graph into lent arrays, or the number of the first "no". On a refusal the arrays have no meaning.
+pub fn read_into(
+    bytes: &[u8],
+    first: &mut [u16; 1024],
+    second: &mut [u16; 1024],
+    predecessors: &mut [u8; 1024],
+) -> Heading
+    ensures { λ r. ⌜ RightHeading (now (bytes .entry)) r (now (first .exit)) (now (second .exit)) (now (predecessors .exit)) ⌝ }
+{
+    if bytes.len() < 5 {
+        return refusal(PlanAnswer::Short);
+    }
+    let h = header_of(bytes[0], bytes[1], bytes[2], bytes[3], bytes[4]);
+    let answer = header_answer(h, bytes.len());
+    if !passed(answer) {
+        return refusal(answer);
+    }
+    read_graph(bytes, h, first, second, predecessors)
+}
+
 // No plan: the blank stands beside the answer.
-fn refusal(answer: PlanAnswer) -> Reading
+fn no_reading(answer: PlanAnswer) -> Reading
     ensures { λ r. ⌜ (r .answer ≡ answer) × (r .plan ≡ blank) ⌝ }
 {
     Reading {
@@ -299,50 +375,28 @@ fn refusal(answer: PlanAnswer) -> Reading
     }
 }
 
-// The tasks and then the graph, after an accepted header.
-fn read_graph(bytes: &[u8], h: Header) -> Reading
-    requires { ⌜ HeaderRead (now bytes) h ⌝ }
+// The plan of any bytes by value, or the number of the first "no".
+pub fn read(bytes: &[u8]) -> Reading
     ensures { λ r. ⌜ RightReading (now (bytes .entry)) r ⌝ }
 {
-    let n = h.tasks;
     let mut first = [0u16; 1024];
     let mut second = [0u16; 1024];
     let mut predecessors = [0u8; 1024];
-    let answer = read_tasks(bytes, n, &mut first, &mut second, &mut predecessors);
+    let heading = read_into(bytes, &mut first, &mut second, &mut predecessors);
+    let answer = heading.answer;
     if !passed(answer) {
-        return refusal(answer);
-    }
-    if !all_preceded(n, &predecessors) {
-        return refusal(PlanAnswer::BadPredecessors);
-    }
-    if !one_exit(n, &first) {
-        return refusal(PlanAnswer::LooseEnd);
+        return no_reading(answer);
     }
     Reading {
-        answer: PlanAnswer::Accepted,
+        answer,
         plan: PlanRecord {
-            responsiveness: h.responsiveness as u8,
-            utilization: h.utilization as u8,
-            quantum_length: h.quantum as u16,
-            tasks: n as u16,
+            responsiveness: heading.responsiveness,
+            utilization: heading.utilization,
+            quantum_length: heading.quantum_length,
+            tasks: heading.tasks,
             first,
             second,
             predecessors,
         },
     }
-}
-
-// The plan of any bytes, or the number of the first "no".
-pub fn read(bytes: &[u8]) -> Reading
-    ensures { λ r. ⌜ RightReading (now (bytes .entry)) r ⌝ }
-{
-    if bytes.len() < 5 {
-        return refusal(PlanAnswer::Short);
-    }
-    let h = header_of(bytes[0], bytes[1], bytes[2], bytes[3], bytes[4]);
-    let answer = header_answer(h, bytes.len());
-    if !passed(answer) {
-        return refusal(answer);
-    }
-    read_graph(bytes, h)
 }
