@@ -1,20 +1,22 @@
 -- The arrays while the tasks are read: what storing one task's fields and noting its successors does.
 use mathlib.Core.Path.{_≡_, refl, sym, _∙_, ap}
-use mathlib.Core.Bool.{Bool, true, false, cond, and-false}
+use mathlib.Core.Bool.{Bool, true, false, cond, not, _&&_, and-assoc}
 use mathlib.Core.Logic.{_⊎_, ⊎-elim}
 use mathlib.Core.List.{List, List·Memᴰ·head, List·Memᴰ·tail}
 use Prim.Native.Nat.{ℕ, zero, suc, _+_, _≤_, _<_}
 use native.Mathlib.Nat.{add-zero}
+use native.Mathlib.Numerals.{add-one}
 use native.Mathlib.Omega.{arith}
-use borrow.Author.Tests.{le-ltb, le-leb, lt-leb, ne-eqb, eqb-true, eqb-false}
+use borrow.Author.Tests.{le-ltb, ne-eqb, eqb-true, eqb-false, ltb-true}
 use lib.Dec.{leb, ltb, eqb}
-use lib.ListN.{length, getD, set, length-set}
-use lib.Seq.{getD-set-same, getD-set-other}
-use Rattle.model.specs.Tests.{member}
+use lib.ListN.{length, getD, set, drop, length-set}
+use lib.Seq.{getD-set-same, getD-set-other, set-getD}
+use mir.Val.{boolByte}
+use Rattle.model.specs.Tests.{below, every, member}
 use Rattle.model.specs.Plan.{used-fields}
 use Rattle.plan.specs.View.{Ends}
 use Rattle.plan.specs.Contracts.{saturated, noted, one-or-two, followed}
-use Rattle.plan.proofs.Lists.{last-or-below}
+use Rattle.plan.proofs.Lists.{last-or-below, every-below, every-from-one}
 use Rattle.plan.proofs.Facts.{FieldFacts, TargetFacts}
 
 -- ---- a field stored at t
@@ -48,6 +50,31 @@ saturated-next (suc zero) = refl
 saturated-next (suc (suc zero)) = refl
 saturated-next (suc (suc (suc n))) =
     rw (le-ltb (suc (suc (suc n))) 3 (omega arith), le-ltb (suc (suc (suc n)) + 1) 3 (omega arith))
+
+-- 1 or 0 is added
+pub added : (b : Bool) (count : ℕ) → count + boolByte b ≡ cond b (count + 1) count
+added true count = refl
+added false count = add-zero count
+
+pub added-fits : (used : Bool) (count : ℕ) → count < 256 → count + boolByte (ltb count 3 && used) < 256
+added-fits used count l = by (ltb count 3) refl used
+  where
+    by : (b : Bool) → ltb count 3 ≡ b → (u : Bool) → count + boolByte (b && u) < 256
+    by true e true = omega (arith, ltb-true count 3 e)
+    by true e false = omega arith
+    by false e u = omega arith
+
+-- the count is written where nothing is noted too
+pub noted-plainly : (counts : List ℕ) (s count : ℕ) → count ≡ cond (ltb (getD counts s 0) 3 && not (eqb s 0)) (getD counts s 0 + 1) (getD counts s 0) →
+    set counts s count ≡ noted counts s
+unfolding noted
+noted-plainly counts s count e = rw e (by (ltb (getD counts s 0) 3) (eqb s 0))
+  where
+    by : (a b : Bool) → set counts s (cond (a && not b) (getD counts s 0 + 1) (getD counts s 0)) ≡ cond b counts (cond a (set counts s (getD counts s 0 + 1)) counts)
+    by true true = set-getD counts s 0
+    by true false = refl
+    by false true = set-getD counts s 0
+    by false false = set-getD counts s 0
 
 -- a field that is 0 notes nothing
 noted-unused : (counts : List ℕ) (s : ℕ) → s ≡ 0 → noted counts s ≡ counts
@@ -138,24 +165,18 @@ note-successors old counts n t (suc (suc more)) first second size small f g h u 
     (note-one old counts first (omega arith) (omega arith) h) u
     ∙ ap saturated (either (old u) u first second (g .apart first second refl))
 
--- ---- the tests of questions 9 and 10
+-- ---- the tests of questions 9 and 10, of one task more
 
-pub too-few : (counts : List ℕ) (t : ℕ) → getD counts t 0 < 1 → one-or-two counts t ≡ false
+pub more-preceded : (counts : List ℕ) (t : ℕ) (all : Bool) → 1 ≤ t → all ≡ every (one-or-two counts) (drop 1 (below t)) →
+    (all && leb 1 (getD counts t 0) && leb (getD counts t 0) 2) ≡ every (one-or-two counts) (drop 1 (below (t + 1)))
 unfolding one-or-two
-too-few counts t h = rw (lt-leb 1 (getD counts t 0) h)
+more-preceded counts t all l e =
+    and-assoc all (leb 1 (getD counts t 0)) (leb (getD counts t 0) 2)
+    ∙ (ap (λ b. b && one-or-two counts t) e
+    ∙ sym (ap (λ n. every (one-or-two counts) (drop 1 (below n))) (add-one t) ∙ every-from-one (one-or-two counts) t l))
 
-pub too-many : (counts : List ℕ) (t : ℕ) → 2 < getD counts t 0 → one-or-two counts t ≡ false
-unfolding one-or-two
-too-many counts t h = rw (lt-leb (getD counts t 0) 2 h, and-false (leb 1 (getD counts t 0)))
-
-pub enough : (counts : List ℕ) (t : ℕ) → 1 ≤ getD counts t 0 → getD counts t 0 ≤ 2 → one-or-two counts t ≡ true
-unfolding one-or-two
-enough counts t a b = rw (le-leb 1 (getD counts t 0) a, le-leb (getD counts t 0) 2 b)
-
-pub loose : (first : List ℕ) (t : ℕ) → getD first t 0 ≡ 0 → followed first t ≡ false
+pub more-followed : (first : List ℕ) (t : ℕ) (all : Bool) → all ≡ every (followed first) (below t) →
+    (all && not (eqb (getD first t 0) 0)) ≡ every (followed first) (below (t + 1))
 unfolding followed
-loose first t e = rw e
-
-pub tied : (first : List ℕ) (t : ℕ) → (getD first t 0 ≡ 0 → ⊥) → followed first t ≡ true
-unfolding followed
-tied first t h = rw (ne-eqb (getD first t 0) 0 h)
+more-followed first t all e =
+    ap (λ b. b && followed first t) e ∙ sym (ap (λ n. every (followed first) (below n)) (add-one t) ∙ every-below (followed first) t)

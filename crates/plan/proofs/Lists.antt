@@ -169,6 +169,12 @@ pub every-below : (test : ℕ → Bool) (n : ℕ) → every test (below (suc n))
 unfolding below
 every-below test n = every-append test (below n) n
 
+-- one number more of those from 1
+pub every-from-one : (test : ℕ → Bool) (t : ℕ) → 1 ≤ t → every test (drop 1 (below (suc t))) ≡ (every test (drop 1 (below t)) && test t)
+unfolding below
+every-from-one test t l =
+    ap (every test) (drop-append-le 1 (below t) (t ∷ []) (omega (arith, length-below t))) ∙ every-append test (drop 1 (below t)) t
+
 -- ---- keep and member
 
 pub keep-append : (test : ℕ → Bool) (xs ys : List ℕ) → keep test (xs ++ ys) ≡ keep test xs ++ keep test ys

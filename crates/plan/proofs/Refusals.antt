@@ -1,15 +1,18 @@
 -- The first "no" of fields that were read, from the tests of the code: one law for each way out.
-use mathlib.Core.Path.{_≡_, refl, sym, ap}
-use mathlib.Core.Bool.{and-false}
+use mathlib.Core.Path.{_≡_, refl, sym, _∙_, ap}
+use mathlib.Core.Bool.{Bool, true, false, not, _&&_, _||_, and-false}
 use mathlib.Core.List.{[], _∷_}
 use Prim.Native.Nat.{ℕ, zero, suc, _+_, _*_, _≤_, _<_}
 use native.Mathlib.Omega.{arith}
 use borrow.Author.Tests.{lt-ltb, le-ltb, le-leb, lt-leb, eq-eqb, ne-eqb}
-use lib.Dec.{eqb}
+use lib.Dec.{leb, ltb, eqb}
 use Rattle.model.specs.Tests.{every}
 use Rattle.model.specs.Questions.{accepted, refused, ask, first-no}
 use Rattle.model.specs.Plan.{used-fields, fields-ok, two-differ, targets-ok}
+use Rattle.plan.specs.Answers.{passes}
 use Rattle.plan.specs.Contracts.{field-questions, pair-questions}
+use Rattle.plan.proofs.Lists.{second-holds}
+use Rattle.plan.proofs.Asked.{passes-is}
 
 -- ---- questions 2 to 6
 
@@ -113,3 +116,36 @@ module _ (n t first second : ℕ) where
   pub two : t < first → first < n → t < second → second < n → (first ≡ second → ⊥) → accepted ≡ first-no (pair-questions n t 2 first second)
   unfolding pair-questions first-no fields-ok targets-ok every two-differ
   two a b c d e = rw (lt-ltb t first a, lt-ltb first n b, lt-ltb t second c, lt-ltb second n d, ne-eqb first second e)
+
+-- ---- 7 and 8 of a task with successors, with no branch
+
+pub fits-asked : (n t count first second : ℕ) →
+    (ltb t first && ltb first n && ((eqb count 1 && eqb second 0) || (eqb count 2 && ltb t second && ltb second n && not (eqb first second))))
+    ≡ (leb 1 count && passes (first-no (pair-questions n t count first second)))
+unfolding pair-questions first-no fields-ok targets-ok every two-differ
+fits-asked n t zero first second = and-false (ltb t first && ltb first n)
+fits-asked n t (suc zero) first second = by (ltb t first) (ltb first n) (eqb second 0)
+  where
+    by : (a b e : Bool) → (a && b && (e || false)) ≡ passes (first-no (ask e 7 ∷ ask ((a && b && true) && true) 8 ∷ []))
+    by true true true = refl
+    by true true false = refl
+    by true false true = refl
+    by true false false = refl
+    by false b true = refl
+    by false b false = refl
+fits-asked n t (suc (suc zero)) first second = by (ltb t first) (ltb first n) (ltb t second) (ltb second n) (eqb first second)
+  where
+    by : (a b c d e : Bool) → (a && b && (c && d && not e)) ≡ passes (first-no (ask true 7 ∷ ask ((a && b && (c && d && true)) && not e) 8 ∷ []))
+    by true true true true true = refl
+    by true true true true false = refl
+    by true true true false e = refl
+    by true true false d e = refl
+    by true false c d e = refl
+    by false b c d e = refl
+fits-asked n t (suc (suc (suc more))) first second =
+    rw (ne-eqb (suc (suc (suc more))) 1 (λ e. omega arith), ne-eqb (suc (suc (suc more))) 2 (λ e. omega arith), le-leb 1 (suc (suc (suc more))) (omega arith))
+    (and-false (ltb t first && ltb first n))
+
+pub fitting : (n t count first second : ℕ) (r : Bool) → r ≡ (leb 1 count && passes (first-no (pair-questions n t count first second))) → r ≡ true →
+    accepted ≡ first-no (pair-questions n t count first second)
+fitting n t count first second r e yes' = sym (passes-is _ (second-holds (leb 1 count) _ (sym e ∙ yes')))

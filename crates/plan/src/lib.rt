@@ -1,6 +1,8 @@
 // A plan's bytes become the plan, or the number of the first question whose answer is no. Nothing is asked of the bytes.
 ghost use mathlib.Core.Path.{_≡_};
-ghost use Prim.Native.Nat.{_-_, _≤_, _<_};
+ghost use mathlib.Core.Bool.{cond, _&&_};
+ghost use Prim.Native.Nat.{_+_, _-_, _≤_, _<_};
+ghost use lib.Dec.{leb, ltb};
 ghost use lib.ListN.{drop};
 ghost use Rattle.model.specs.Tests.{below, every};
 ghost use Rattle.model.specs.Questions.{first-no, answer-number};
@@ -146,10 +148,22 @@ fn task_of(a: u8, b: u8, c: u8) -> TaskFields
     }
 }
 
+// The task t of n has successors, and 7 and 8 pass: so it is with nearly every task, and it is asked with no branch.
+fn fits(f: TaskFields, t: usize, n: usize) -> bool
+    ensures { λ r. ⌜ r ≡ (leb 1 (f .count) && passes (first-no (pair-questions n t (f .count) (f .first) (f .second)))) ⌝ }
+{
+    let one = (f.count == 1) & (f.second == 0);
+    let two = (f.count == 2) & (t < f.second) & (f.second < n) & (f.first != f.second);
+    (t < f.first) & (f.first < n) & (one | two)
+}
+
 // Questions 7 and 8 of the task t of n.
 fn task_answer(f: TaskFields, t: usize, n: usize) -> PlanAnswer
     ensures { λ r. ⌜ answer-of r ≡ first-no (pair-questions n t (f .count) (f .first) (f .second)) ⌝ }
 {
+    if fits(f, t, n) {
+        return PlanAnswer::Accepted;
+    }
     if f.count > 2 {
         return PlanAnswer::BadFields;
     }
@@ -196,18 +210,19 @@ fn two_answer(first: usize, second: usize, t: usize, n: usize) -> PlanAnswer
     PlanAnswer::Accepted
 }
 
+// One more, up to 3, for a field that is used; with no branch.
+fn one_more(count: u8, used: bool) -> u8
+    ensures { λ r. ⌜ r ≡ cond (ltb count 3 && used) (count + 1) count ⌝ }
+{
+    count + ((count < 3) & used) as u8
+}
+
 // One predecessor more for the task s, up to 3; a field that is 0 names no task.
 fn note(counts: &mut [u8; 1024], s: usize)
     requires { ⌜ s < 1024 ⌝ }
     ensures { λ _. ⌜ now (counts .exit) ≡ noted (now (counts .entry)) s ⌝ }
 {
-    if s == 0 {
-        return;
-    }
-    let count = counts[s];
-    if count < 3 {
-        counts[s] = count + 1;
-    }
+    counts[s] = one_more(counts[s], s != 0);
 }
 
 // Reads the task t of n: its questions, and where they pass its fields into the arrays.
@@ -259,35 +274,30 @@ fn read_tasks(
 
 // Question 9 over the counts: each of the tasks from 1 up has one or two predecessors.
 fn all_preceded(n: usize, counts: &[u8; 1024]) -> bool
-    requires { ⌜ n ≤ 1024 ⌝ }
+    requires { ⌜ (1 ≤ n) × (n ≤ 1024) ⌝ }
     ensures { λ r. ⌜ r ≡ every (one-or-two (now (counts .entry))) (drop 1 (below n)) ⌝ }
 {
+    let mut all = true;
     let mut t = 1;
     while t < n {
-        if counts[t] < 1 {
-            return false;
-        }
-        if counts[t] > 2 {
-            return false;
-        }
+        all = all & (counts[t] >= 1) & (counts[t] <= 2);
         t += 1;
     }
-    true
+    all
 }
 
 // Question 10 over the first successors: each task but the last has one.
 fn one_exit(n: usize, first: &[u16; 1024]) -> bool
-    requires { ⌜ n ≤ 1024 ⌝ }
+    requires { ⌜ (1 ≤ n) × (n ≤ 1024) ⌝ }
     ensures { λ r. ⌜ r ≡ every (followed (now (first .entry))) (below (n - 1)) ⌝ }
 {
+    let mut all = true;
     let mut t = 0;
     while t + 1 < n {
-        if first[t] == 0 {
-            return false;
-        }
+        all = all & (first[t] != 0);
         t += 1;
     }
-    true
+    all
 }
 
 // No plan: zeros stand beside the answer.
