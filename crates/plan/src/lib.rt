@@ -2,7 +2,7 @@
 ghost use mathlib.Core.Path.{_≡_};
 ghost use mathlib.Core.Bool.{cond, _&&_};
 ghost use Prim.Native.Nat.{_+_, _-_, _≤_, _<_};
-ghost use lib.Dec.{leb, ltb};
+ghost use lib.Dec.{leb, ltb, eqb};
 ghost use lib.ListN.{drop};
 ghost use Rattle.model.specs.Tests.{below, every};
 ghost use Rattle.model.specs.Questions.{first-no, answer-number};
@@ -148,13 +148,27 @@ fn task_of(a: u8, b: u8, c: u8) -> TaskFields
     }
 }
 
-// The task t of n has successors, and 7 and 8 pass: so it is with nearly every task, and it is asked with no branch.
+// The second of two fields, or the first where it is unused.
+fn last_used(first: usize, second: usize) -> usize
+    ensures { λ r. ⌜ r ≡ cond (eqb second 0) first second ⌝ }
+{
+    if second == 0 {
+        return first;
+    }
+    second
+}
+
+// The task t of n has successors, and 7 and 8 pass. So it is with nearly every task: no branch tells one successor from two.
 fn fits(f: TaskFields, t: usize, n: usize) -> bool
     ensures { λ r. ⌜ r ≡ (leb 1 (f .count) && passes (first-no (pair-questions n t (f .count) (f .first) (f .second)))) ⌝ }
 {
-    let one = (f.count == 1) & (f.second == 0);
-    let two = (f.count == 2) & (t < f.second) & (f.second < n) & (f.first != f.second);
-    (t < f.first) & (f.first < n) & (one | two)
+    let last = last_used(f.first, f.second);
+    (f.count == 2 - (f.second == 0) as usize)
+        & (t < f.first)
+        & (f.first < n)
+        & (t < last)
+        & (last < n)
+        & (f.first != f.second)
 }
 
 // Questions 7 and 8 of the task t of n.
@@ -168,44 +182,16 @@ fn task_answer(f: TaskFields, t: usize, n: usize) -> PlanAnswer
         return PlanAnswer::BadFields;
     }
     if f.count == 2 {
-        return two_answer(f.first, f.second, t, n);
+        return PlanAnswer::BadSuccessors;
     }
     if f.second != 0 {
         return PlanAnswer::BadFields;
     }
-    if f.count == 0 {
-        if f.first != 0 {
-            return PlanAnswer::BadFields;
-        }
-        return PlanAnswer::Accepted;
-    }
-    if f.first <= t {
+    if f.count == 1 {
         return PlanAnswer::BadSuccessors;
     }
-    if f.first >= n {
-        return PlanAnswer::BadSuccessors;
-    }
-    PlanAnswer::Accepted
-}
-
-// Question 8 of a task with two successors.
-fn two_answer(first: usize, second: usize, t: usize, n: usize) -> PlanAnswer
-    ensures { λ r. ⌜ answer-of r ≡ first-no (pair-questions n t 2 first second) ⌝ }
-{
-    if first <= t {
-        return PlanAnswer::BadSuccessors;
-    }
-    if first >= n {
-        return PlanAnswer::BadSuccessors;
-    }
-    if second <= t {
-        return PlanAnswer::BadSuccessors;
-    }
-    if second >= n {
-        return PlanAnswer::BadSuccessors;
-    }
-    if first == second {
-        return PlanAnswer::BadSuccessors;
+    if f.first != 0 {
+        return PlanAnswer::BadFields;
     }
     PlanAnswer::Accepted
 }
