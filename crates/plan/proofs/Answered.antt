@@ -5,7 +5,7 @@ use mathlib.Core.List.{List, [], _∷_, flatMap}
 use Prim.Native.Nat.{ℕ, _+_, _*_, _-_, _≤_, _<_}
 use native.Mathlib.Omega.{arith}
 use borrow.Author.Tests.{le-leb, lt-leb}
-use lib.ListN.{length, getD, drop, replicate}
+use lib.ListN.{length, getD, set, drop, replicate}
 use Rattle.model.specs.Tests.{below, every}
 use Rattle.model.specs.Questions.{accepted, ask, first-no}
 use Rattle.model.specs.Plan.{header, task-count, task-questions, header-questions, graph-questions, all-preceded, one-exit, plan-of, plan-answer}
@@ -146,13 +146,13 @@ module _ (bytes : List ℕ) (h : Header) (read : HeaderRead bytes h) where
 
       pub accepted-whole : every (one-or-two counts) (drop 1 (below (h .tasks))) ≡ true → every (followed first) (below (h .tasks - 1)) ≡ true →
           (r : Heading) → r .answer ≡ Accepted → r .responsiveness ≡ h .responsiveness → r .utilization ≡ h .utilization →
-          r .«quantum_length» ≡ h .quantum → r .tasks ≡ h .tasks → RightHeading bytes r first second counts
+          r .«quantum_length» ≡ h .quantum → r .tasks ≡ h .tasks → RightHeading bytes r first second (set counts 0 0)
       unfolding graph-questions
       accepted-whole nine ten r e e-r e-u e-q e-n =
           let passed =
           two-accepted 9 10 (sym (question-9 bytes first second counts all-held) ∙ rw tasks-number at nine)
           (sym (question-10 bytes first second counts all-held) ∙ rw tasks-number at ten) in
-          right-acceptance bytes r first second counts (graph-left ∙ passed) e
-          (record-holds bytes first second counts all-held (plan-with r first second counts) (e-r ∙ read .fields .responsiveness-read)
+          right-acceptance bytes r first second (set counts 0 0) (graph-left ∙ passed) e
+          (record-holds bytes first second counts all-held (plan-with r first second (set counts 0 0)) (e-r ∙ read .fields .responsiveness-read)
           (e-u ∙ read .fields .utilization-read) (e-q ∙ read .fields .quantum-read) (e-n ∙ tasks-number) refl refl refl
           (graph-facts (plan-of bytes) passed))

@@ -7,7 +7,7 @@ use Prim.Native.Nat.{ℕ, zero, suc, _+_, _≤_, _<_}
 use native.Mathlib.Nat.{add-zero}
 use native.Mathlib.Numerals.{add-one}
 use native.Mathlib.Omega.{arith}
-use borrow.Author.Tests.{le-ltb, ne-eqb, eqb-true, eqb-false, ltb-true}
+use borrow.Author.Tests.{le-ltb, eqb-true, eqb-false, ltb-true}
 use lib.Dec.{leb, ltb, eqb}
 use lib.ListN.{length, getD, set, drop, length-set}
 use lib.Seq.{getD-set-same, getD-set-other, set-getD}
@@ -56,78 +56,68 @@ pub added : (b : Bool) (count : ℕ) → count + boolByte b ≡ cond b (count + 
 added true count = refl
 added false count = add-zero count
 
-pub added-fits : (used : Bool) (count : ℕ) → count < 256 → count + boolByte (ltb count 3 && used) < 256
-added-fits used count l = by (ltb count 3) refl used
+pub added-fits : (count : ℕ) → count < 256 → count + boolByte (ltb count 3) < 256
+added-fits count l = by (ltb count 3) refl
   where
-    by : (b : Bool) → ltb count 3 ≡ b → (u : Bool) → count + boolByte (b && u) < 256
-    by true e true = omega (arith, ltb-true count 3 e)
-    by true e false = omega arith
-    by false e u = omega arith
+    by : (b : Bool) → ltb count 3 ≡ b → count + boolByte b < 256
+    by true e = omega (arith, ltb-true count 3 e)
+    by false e = omega arith
 
--- the count is written where nothing is noted too
-pub noted-plainly : (counts : List ℕ) (s count : ℕ) → count ≡ cond (ltb (getD counts s 0) 3 && not (eqb s 0)) (getD counts s 0 + 1) (getD counts s 0) →
-    set counts s count ≡ noted counts s
-unfolding noted
-noted-plainly counts s count e = rw e (by (ltb (getD counts s 0) 3) (eqb s 0))
-  where
-    by : (a b : Bool) → set counts s (cond (a && not b) (getD counts s 0 + 1) (getD counts s 0)) ≡ cond b counts (cond a (set counts s (getD counts s 0 + 1)) counts)
-    by true true = set-getD counts s 0
-    by true false = refl
-    by false true = set-getD counts s 0
-    by false false = set-getD counts s 0
-
--- a field that is 0 notes nothing
-noted-unused : (counts : List ℕ) (s : ℕ) → s ≡ 0 → noted counts s ≡ counts
-unfolding noted
-noted-unused counts s e = rw e
-
-module _ (counts : List ℕ) (s : ℕ) (used : 0 < s) where
-  noted-used : noted counts s ≡ cond (ltb (getD counts s 0) 3) (set counts s (getD counts s 0 + 1)) counts
+module _ (counts : List ℕ) (s : ℕ) where
+  -- the count is written where nothing is noted too
+  pub noted-plainly : (count : ℕ) → count ≡ cond (ltb (getD counts s 0) 3) (getD counts s 0 + 1) (getD counts s 0) → set counts s count ≡ noted counts s
   unfolding noted
-  noted-used = rw (ne-eqb s 0 (λ e. omega arith))
+  noted-plainly count e = rw e (by (ltb (getD counts s 0) 3))
+    where
+      by : (b : Bool) → set counts s (cond b (getD counts s 0 + 1) (getD counts s 0)) ≡ cond b (set counts s (getD counts s 0 + 1)) counts
+      by true = refl
+      by false = set-getD counts s 0
 
   noted-same : s < length counts → getD (noted counts s) s 0 ≡ next (getD counts s 0)
-  unfolding next
-  noted-same l = ap (λ xs. getD xs s 0) noted-used ∙ by (ltb (getD counts s 0) 3)
+  unfolding noted next
+  noted-same l = by (ltb (getD counts s 0) 3)
     where
       by : (b : Bool) → getD (cond b (set counts s (getD counts s 0 + 1)) counts) s 0 ≡ cond b (getD counts s 0 + 1) (getD counts s 0)
       by true = getD-set-same counts s _ 0 l
       by false = refl
 
   noted-other : (u : ℕ) → (u ≡ s → ⊥) → getD (noted counts s) u 0 ≡ getD counts u 0
-  noted-other u ne = ap (λ xs. getD xs u 0) noted-used ∙ by (ltb (getD counts s 0) 3)
+  unfolding noted
+  noted-other u ne = by (ltb (getD counts s 0) 3)
     where
       by : (b : Bool) → getD (cond b (set counts s (getD counts s 0 + 1)) counts) u 0 ≡ getD counts u 0
       by true = getD-set-other counts s u _ 0 ne
       by false = refl
 
-pub length-noted : (counts : List ℕ) (s : ℕ) → length (noted counts s) ≡ length counts
-unfolding noted
-length-noted counts s = by (eqb s 0) (ltb (getD counts s 0) 3)
-  where
-    by : (a b : Bool) → length (cond a counts (cond b (set counts s (getD counts s 0 + 1)) counts)) ≡ length counts
-    by true b = refl
-    by false true = length-set counts s _
-    by false false = refl
+  pub length-noted : length (noted counts s) ≡ length counts
+  unfolding noted
+  length-noted = by (ltb (getD counts s 0) 3)
+    where
+      by : (b : Bool) → length (cond b (set counts s (getD counts s 0 + 1)) counts) ≡ length counts
+      by true = length-set counts s _
+      by false = refl
 
 pub noted-ends : (n : ℕ) (counts : List ℕ) (s : ℕ) → s < n → Ends n counts → Ends n (noted counts s)
-noted-ends n counts zero l ends = rw (noted-unused counts 0 refl) ends
-noted-ends n counts (suc s) l ends =
+noted-ends n counts s l ends =
     record {
-      places = length-noted counts (suc s) ∙ ends .places;
-      nothing-past = λ u m. noted-other counts (suc s) (omega arith) u (λ e. omega arith) ∙ ends .nothing-past u m;
+      places = length-noted counts s ∙ ends .places;
+      nothing-past = λ u m. noted-other counts s u (λ e. omega arith) ∙ ends .nothing-past u m;
     }
 
--- one successor s more
-note-one : (old : ℕ → ℕ) (counts : List ℕ) (s : ℕ) → 0 < s → s < length counts → ((u : ℕ) → getD counts u 0 ≡ saturated (old u)) →
-    (u : ℕ) → getD (noted counts s) u 0 ≡ saturated (old u + cond (eqb u s) 1 0)
-note-one old counts s p l h u = by (eqb u s) refl
+-- one successor s more, and what is said of every task from 1
+note-one : (old : ℕ → ℕ) (counts : List ℕ) (s : ℕ) → 0 < s → s < length counts → ((u : ℕ) → 1 ≤ u → getD counts u 0 ≡ saturated (old u)) →
+    (u : ℕ) → 1 ≤ u → getD (noted counts s) u 0 ≡ saturated (old u + cond (eqb u s) 1 0)
+note-one old counts s p l h u m = by (eqb u s) refl
   where
     by : (b : Bool) → eqb u s ≡ b → getD (noted counts s) u 0 ≡ saturated (old u + cond b 1 0)
     by true e =
         ap (λ v. getD (noted counts s) v 0) (eqb-true u s e)
-        ∙ (noted-same counts s p l ∙ (ap next (h s) ∙ (saturated-next (old s) ∙ ap (λ v. saturated (old v + 1)) (sym (eqb-true u s e)))))
-    by false e = noted-other counts s p u (eqb-false u s e) ∙ (h u ∙ ap saturated (sym (add-zero (old u))))
+        ∙ (noted-same counts s l ∙ (ap next (h s p) ∙ (saturated-next (old s) ∙ ap (λ v. saturated (old v + 1)) (sym (eqb-true u s e)))))
+    by false e = noted-other counts s u (eqb-false u s e) ∙ (h u m ∙ ap saturated (sym (add-zero (old u))))
+
+-- an unused field is noted at task 0 alone
+noted-unused : (counts : List ℕ) (s u : ℕ) → s ≡ 0 → 1 ≤ u → getD (noted counts s) u 0 ≡ getD counts u 0
+noted-unused counts s u e m = noted-other counts s u (λ same. omega arith)
 
 as-test : (b : Bool) → cond b true false ≡ b
 as-test true = refl
@@ -145,24 +135,24 @@ either o u a b ne = by (eqb u a) (eqb u b) refl refl
 
 -- the successors of a task that 7 and 8 pass: each count is one more where the task is among them
 pub note-successors : (old : ℕ → ℕ) (counts : List ℕ) (n t count first second : ℕ) → length counts ≡ 1024 → n ≤ 1024 →
-    FieldFacts count first second → TargetFacts n t (used-fields count first second) → ((u : ℕ) → getD counts u 0 ≡ saturated (old u)) →
-    (u : ℕ) → getD (noted (noted counts first) second) u 0 ≡ saturated (old u + cond (member u (used-fields count first second)) 1 0)
+    FieldFacts count first second → TargetFacts n t (used-fields count first second) → ((u : ℕ) → 1 ≤ u → getD counts u 0 ≡ saturated (old u)) →
+    (u : ℕ) → 1 ≤ u → getD (noted (noted counts first) second) u 0 ≡ saturated (old u + cond (member u (used-fields count first second)) 1 0)
 unfolding member
-note-successors old counts n t zero first second size small f g h u =
-    ap (λ xs. getD xs u 0) (noted-unused (noted counts first) second (f .second-unused (omega arith)) ∙ noted-unused counts first (f .first-unused refl))
-    ∙ (h u ∙ ap saturated (sym (add-zero (old u))))
-note-successors old counts n t (suc zero) first second size small f g h u =
+note-successors old counts n t zero first second size small f g h u m =
+    noted-unused (noted counts first) second u (f .second-unused (omega arith)) m
+    ∙ (noted-unused counts first u (f .first-unused refl) m ∙ (h u m ∙ ap saturated (sym (add-zero (old u)))))
+note-successors old counts n t (suc zero) first second size small f g h u m =
     let up : t < first = g .upward first (List·Memᴰ·head refl) in
     let low : first < n = g .inside first (List·Memᴰ·head refl) in
-    ap (λ xs. getD xs u 0) (noted-unused (noted counts first) second (f .second-unused (omega arith)))
-    ∙ (note-one old counts first (omega arith) (omega arith) h u ∙ ap (λ b. saturated (old u + cond b 1 0)) (sym (as-test (eqb u first))))
-note-successors old counts n t (suc (suc more)) first second size small f g h u =
+    noted-unused (noted counts first) second u (f .second-unused (omega arith)) m
+    ∙ (note-one old counts first (omega arith) (omega arith) h u m ∙ ap (λ b. saturated (old u + cond b 1 0)) (sym (as-test (eqb u first))))
+note-successors old counts n t (suc (suc more)) first second size small f g h u m =
     let up : t < first = g .upward first (List·Memᴰ·head refl) in
     let low : first < n = g .inside first (List·Memᴰ·head refl) in
     let up-2 : t < second = g .upward second (List·Memᴰ·tail (List·Memᴰ·head refl)) in
     let low-2 : second < n = g .inside second (List·Memᴰ·tail (List·Memᴰ·head refl)) in
     note-one (λ v. old v + cond (eqb v first) 1 0) (noted counts first) second (omega arith) (omega (arith, length-noted counts first))
-    (note-one old counts first (omega arith) (omega arith) h) u
+    (note-one old counts first (omega arith) (omega arith) h) u m
     ∙ ap saturated (either (old u) u first second (g .apart first second refl))
 
 -- ---- the tests of questions 9 and 10, of one task more

@@ -196,19 +196,19 @@ fn task_answer(f: TaskFields, t: usize, n: usize) -> PlanAnswer
     PlanAnswer::Accepted
 }
 
-// One more, up to 3, for a field that is used; with no branch.
-fn one_more(count: u8, used: bool) -> u8
-    ensures { λ r. ⌜ r ≡ cond (ltb count 3 && used) (count + 1) count ⌝ }
+// One more, up to 3; with no branch.
+fn one_more(count: u8) -> u8
+    ensures { λ r. ⌜ r ≡ cond (ltb count 3) (count + 1) count ⌝ }
 {
-    count + ((count < 3) & used) as u8
+    count + (count < 3) as u8
 }
 
-// One predecessor more for the task s, up to 3; a field that is 0 names no task.
+// One predecessor more for the task s, up to 3. An unused field is noted at task 0, which has none.
 fn note(counts: &mut [u8; 1024], s: usize)
     requires { ⌜ s < 1024 ⌝ }
     ensures { λ _. ⌜ now (counts .exit) ≡ noted (now (counts .entry)) s ⌝ }
 {
-    counts[s] = one_more(counts[s], s != 0);
+    counts[s] = one_more(counts[s]);
 }
 
 // Reads the task t of n: its questions, and where they pass its fields into the arrays.
@@ -324,6 +324,7 @@ fn read_graph(
     if !one_exit(n, first) {
         return refusal(PlanAnswer::LooseEnd);
     }
+    predecessors[0] = 0;
     Heading {
         answer: PlanAnswer::Accepted,
         responsiveness: h.responsiveness as u8,

@@ -62,17 +62,20 @@ returns-3 c =
     (sym (c .before .before .one-exit .ensures) ∙ not-true _ (c .before .if3 .taken)))
     refl (c .refusal3 .ensures)
 
-cast-t18 : tie.Need-cast-t18
-cast-t18 c = search needs
-
-cast-t19 : tie.Need-cast-t19
-cast-t19 c = search needs
+element-write-predecessors : tie.Need-element-write-predecessors
+element-write-predecessors c = search needs
 
 cast-t20 : tie.Need-cast-t20
 cast-t20 c = search needs
 
 cast-t21 : tie.Need-cast-t21
 cast-t21 c = search needs
+
+cast-t22 : tie.Need-cast-t22
+cast-t22 c = search needs
+
+cast-t23 : tie.Need-cast-t23
+cast-t23 c = search needs
 
 returns-4 : tie.Need-returns-4
 returns-4 c =
@@ -99,8 +102,9 @@ read-graph-spec =
     one-exit-requires
     refusal-requires-3
     returns-3
-    cast-t18
-    cast-t19
+    element-write-predecessors
     cast-t20
     cast-t21
+    cast-t22
+    cast-t23
     returns-4)
