@@ -49,23 +49,26 @@ pub extern "C" fn jirvaldo_core_accept(
 ) -> u8
     ensures { λ r. ⌜ Accepts (now (plan .entry)) (now (first .entry)) (now (second .entry)) (now (pending .entry)) (now (next .entry)) (now (ends .entry)) (now (words .entry)) (now (first .exit)) (now (second .exit)) (now (pending .exit)) (now (next .exit)) (now (ends .exit)) (now (words .exit)) r ⌝ }
 {
-    let acceptance = job::accept(plan);
-    let answer = acceptance.answer;
+    let mut its_first = [0u16; 1024];
+    let mut its_second = [0u16; 1024];
+    let mut its_pending = [0u8; 1024];
+    let heading = plan::read_into(plan, &mut its_first, &mut its_second, &mut its_pending);
+    let answer = heading.answer;
     if !plan::passed(answer) {
         return plan::number(answer);
     }
-    let job = acceptance.job;
-    let its_first = job.first;
-    let its_second = job.second;
-    let its_pending = job.pending;
-    let its_next = job.next;
-    let its_ends = job.ends;
     *first = its_first;
     *second = its_second;
     *pending = its_pending;
-    *next = its_next;
-    *ends = its_ends;
-    memory::store(words, job.numbers, job.course);
+    *next = [0u16; 1024];
+    *ends = [0u16; 256];
+    let numbers = job::no_numbers(heading.tasks);
+    let course = job::fresh_course(
+        heading.responsiveness,
+        heading.utilization,
+        heading.quantum_length,
+    );
+    memory::store(words, numbers, course);
     0
 }
 

@@ -31,7 +31,7 @@ use Rattle.plan.proofs.Sound.{accepted-sound}
 use Rattle.engine.specs.View.{plan-view, state-view}
 use Rattle.engine.specs.Reached.{Reached, AcceptedPlan}
 use Rattle.job.specs.View.{job-plan, job-state, ReachedBy}
-use Rattle.job.specs.Promises.{fresh-job, no-numbers, blank-job, Accepting}
+use Rattle.job.specs.Promises.{fresh-job, no-numbers, fresh-course, blank-job, Accepting}
 use Rattle.job.specs.declared.Job.{Job}
 
 -- ---- a test that fails at every number below n
@@ -47,11 +47,11 @@ no-flags f n h =
 
 module _ (bytes : List ℕ) (p : PlanRecord) (answer : plan-answer bytes ≡ accepted) (holds : Holds bytes p) where
   pub fresh-plan : job-plan (fresh-job p) ≡ plan-of bytes
-  unfolding fresh-job no-numbers plan-view PlanView.plan-view
+  unfolding fresh-job no-numbers fresh-course plan-view PlanView.plan-view
   fresh-plan = holds .shows
 
   same-successors : successors-view (p .first) (p .second) (p .tasks) ≡ plan-of bytes .successors
-  unfolding fresh-job no-numbers plan-view
+  unfolding fresh-job no-numbers fresh-course plan-view
   same-successors = ap (λ (q : Plan). q .successors) fresh-plan
 
   task-number : tasks (plan-of bytes) ≡ p .tasks
@@ -88,7 +88,7 @@ module _ (bytes : List ℕ) (p : PlanRecord) (answer : plan-answer bytes ≡ acc
   none-worked = no-flags _ (p .tasks) none-marked
 
   pub fresh-state : job-state (fresh-job p) ≡ fresh (plan-of bytes)
-  unfolding fresh-job no-numbers state-view fresh deques-view muggable-view below
+  unfolding fresh-job no-numbers fresh-course state-view fresh deques-view muggable-view below
   fresh-state = rw (none-worked, ← task-number)
 
   awaits-all : (t : ℕ) → t < p .tasks →
@@ -107,7 +107,7 @@ module _ (bytes : List ℕ) (p : PlanRecord) (answer : plan-answer bytes ≡ acc
       }
 
   pub fresh-reached : ReachedBy (plan-of bytes) [] (fresh-job p)
-  unfolding run run-from beginning fresh-job no-numbers
+  unfolding run run-from beginning fresh-job no-numbers fresh-course
   fresh-reached =
       record {
         accepted-plan = record { bytes = bytes; answer = answer; given = refl };
@@ -139,7 +139,7 @@ accepting bytes reading right job is-fresh =
 
 -- "no record": a job has a task, and the blank has none
 pub blank-unreached : (plan : Plan) (calls : List Call) → ReachedBy plan calls blank-job → ⊥
-unfolding blank-job fresh-job no-numbers blank plan-view
+unfolding blank-job fresh-job no-numbers fresh-course blank plan-view
 blank-unreached plan calls r =
     let sound : SoundPlan plan = rw (r .accepted-plan .given) (accepted-sound (r .accepted-plan .bytes) (r .accepted-plan .answer)) in
     let none : tasks plan ≡ 0 = ap tasks (sym (r .its-plan)) ∙ tasks-shown (replicate 1024 0) (replicate 1024 0) 0 in

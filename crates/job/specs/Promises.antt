@@ -11,6 +11,7 @@ use Rattle.plan.specs.declared.PlanRecord.{PlanRecord}
 use Rattle.plan.specs.Answers.{answer-of as plan-answer-of}
 use Rattle.plan.specs.Promise.{blank}
 use Rattle.deque.specs.declared.Numbers.{Numbers}
+use Rattle.engine.specs.declared.Course.{Course}
 use Rattle.engine.specs.Answers.{answer-of}
 use Rattle.job.specs.declared.Job.{Job}
 use Rattle.job.specs.declared.Acceptance.{Acceptance}
@@ -33,6 +34,20 @@ no-numbers tasks =
       waiting = 0;
     }
 
+-- the plan's numbers, and those that calls move beside the execution, before any call
+unfoldable pub fresh-course : ℕ → ℕ → ℕ → Course
+fresh-course responsiveness utilization quantum-length =
+    record {
+      responsiveness = responsiveness;
+      utilization = utilization;
+      «quantum_length» = quantum-length;
+      desire = 1;
+      started = false;
+      «is_open» = false;
+      ticks = 0;
+      begun = 0;
+    }
+
 -- the record of a plan before any call: every task awaits all its predecessors
 unfoldable pub fresh-job : PlanRecord → Job
 fresh-job p =
@@ -43,17 +58,7 @@ fresh-job p =
       next = replicate 1024 0;
       ends = replicate 256 0;
       numbers = no-numbers (p .tasks);
-      course =
-          record {
-            responsiveness = p .responsiveness;
-            utilization = p .utilization;
-            «quantum_length» = p .«quantum_length»;
-            desire = 1;
-            started = false;
-            «is_open» = false;
-            ticks = 0;
-            begun = 0;
-          };
+      course = fresh-course (p .responsiveness) (p .utilization) (p .«quantum_length»);
     }
 
 -- what stands beside the number of a refused plan: the blank of plan reading, as if it were a plan. It is no record: no plan and no calls

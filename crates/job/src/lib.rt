@@ -5,7 +5,7 @@ ghost use Rattle.model.specs.Machine.{grants, ticks, status};
 ghost use Rattle.job.specs.View.{FromCalls, job-state};
 ghost use Rattle.status.specs.Number.{status-number};
 ghost use Rattle.job.specs.Status.{StatusOf};
-ghost use Rattle.job.specs.Promises.{Accepting, Calling, no-numbers, fresh-job};
+ghost use Rattle.job.specs.Promises.{Accepting, Calling, no-numbers, fresh-course, fresh-job};
 use deque::MugCycles;
 use deque::Numbers;
 use deque::StealCycles;
@@ -41,7 +41,7 @@ pub struct Called {
 }
 
 // The numbers of an execution that has not begun.
-fn no_numbers(tasks: u16) -> Numbers
+pub fn no_numbers(tasks: u16) -> Numbers
     ensures { λ r. ⌜ r ≡ no-numbers tasks ⌝ }
 {
     Numbers {
@@ -55,6 +55,22 @@ fn no_numbers(tasks: u16) -> Numbers
         usage: 0,
         head: 0,
         waiting: 0,
+    }
+}
+
+// The plan's numbers, and those that calls move beside the execution, before any call.
+pub fn fresh_course(responsiveness: u8, utilization: u8, quantum_length: u16) -> Course
+    ensures { λ r. ⌜ r ≡ fresh-course responsiveness utilization «quantum_length» ⌝ }
+{
+    Course {
+        responsiveness,
+        utilization,
+        quantum_length,
+        desire: 1,
+        started: false,
+        is_open: false,
+        ticks: 0,
+        begun: 0,
     }
 }
 
@@ -72,16 +88,7 @@ fn fresh(p: PlanRecord) -> Job
         next: [0u16; 1024],
         ends: [0u16; 256],
         numbers: no_numbers(p.tasks),
-        course: Course {
-            responsiveness: p.responsiveness,
-            utilization: p.utilization,
-            quantum_length: p.quantum_length,
-            desire: 1,
-            started: false,
-            is_open: false,
-            ticks: 0,
-            begun: 0,
-        },
+        course: fresh_course(p.responsiveness, p.utilization, p.quantum_length),
     }
 }
 

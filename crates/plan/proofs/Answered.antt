@@ -1,11 +1,11 @@
--- The reading that each way out gives, and the answer that it has: the header's, the tasks', 9, 10 or acceptance.
-use mathlib.Core.Path.{_≡_, sym, _∙_, ap}
+-- The heading that each way out gives, and the answer that it has: the header's, the tasks', 9, 10 or acceptance.
+use mathlib.Core.Path.{_≡_, refl, sym, _∙_, ap}
 use mathlib.Core.Bool.{true, false}
 use mathlib.Core.List.{List, [], _∷_, flatMap}
 use Prim.Native.Nat.{ℕ, _+_, _*_, _-_, _≤_, _<_}
 use native.Mathlib.Omega.{arith}
 use borrow.Author.Tests.{le-leb, lt-leb}
-use lib.ListN.{length, getD, drop, replicate}
+use lib.ListN.{length, getD, set, drop, replicate}
 use Rattle.model.specs.Tests.{below, every}
 use Rattle.model.specs.Questions.{accepted, ask, first-no}
 use Rattle.model.specs.Plan.{header, task-count, task-questions, header-questions, graph-questions, all-preceded, one-exit, plan-of, plan-answer}
@@ -13,34 +13,59 @@ use Rattle.plan.specs.declared.PlanAnswer.{PlanAnswer}
 use Rattle.plan.specs.declared.PlanAnswer.the-variants.{Accepted, Short, BadPredecessors, LooseEnd}
 use Rattle.plan.specs.declared.Header.{Header}
 use Rattle.plan.specs.declared.Reading.{Reading}
+use Rattle.plan.specs.declared.Heading.{Heading}
 use Rattle.plan.specs.Answers.{answer-of, passes}
 use Rattle.plan.specs.Contracts.{five-bytes, field-questions, HeaderOf, HeaderRead, Held, Due, TasksRead, one-or-two, followed}
-use Rattle.plan.specs.Promise.{blank, Holds, RightReading}
+use Rattle.plan.specs.Promise.{blank, no-heading, plan-with, Holds, RightReading, RightHeading}
 use Rattle.plan.proofs.Asked.{passes-is, passes-not, stops, two-accepted, first-refused, second-refused}
 use Rattle.plan.proofs.Facts.{header-facts}
 use Rattle.plan.proofs.Sound.{answer-parts, graph-facts}
 use Rattle.plan.proofs.Steps.{header-bytes}
 use Rattle.plan.proofs.Whole.{question-9, question-10, nothing-held, record-holds}
 
--- ---- readings
+-- ---- headings
 
--- a refusal leaves the blank
-pub right-refusal : (bytes : List ℕ) (a : PlanAnswer) (r : Reading) → answer-of a ≡ plan-answer bytes → passes (answer-of a) ≡ false →
-    r .answer ≡ a → r .plan ≡ blank → RightReading bytes r
-right-refusal bytes a r answered fails e p =
-    record {
-      answered = ap answer-of e ∙ answered;
+-- a refusal leaves zeros
+pub right-refusal : (bytes : List ℕ) (a : PlanAnswer) (r : Heading) (first second counts : List ℕ) → answer-of a ≡ plan-answer bytes →
+    passes (answer-of a) ≡ false → r ≡ no-heading a → RightHeading bytes r first second counts
+right-refusal bytes a r first second counts answered fails e =
+    rw e
+    (record {
+      answered = answered;
       held = λ yes'. absurd (passes-not (answer-of a) fails (answered ∙ yes'));
-      no-plan = λ _ _. p;
-    }
+      no-plan = λ _ _. refl;
+    })
 
-pub right-acceptance : (bytes : List ℕ) (r : Reading) → plan-answer bytes ≡ accepted → r .answer ≡ Accepted → Holds bytes (r .plan) → RightReading bytes r
-right-acceptance bytes r answered e h =
+pub right-acceptance : (bytes : List ℕ) (r : Heading) (first second counts : List ℕ) → plan-answer bytes ≡ accepted → r .answer ≡ Accepted →
+    Holds bytes (plan-with r first second counts) → RightHeading bytes r first second counts
+right-acceptance bytes r first second counts answered e h =
     record {
       answered = ap answer-of e ∙ sym answered;
       held = λ _. h;
       no-plan = λ number refusal. let z : _≡_ {A = ℕ} 0 1 = cc in absurd (omega arith);
     }
+
+-- ---- readings, by value
+
+module _ (bytes : List ℕ) (h : Heading) (first second counts : List ℕ) (right : RightHeading bytes h first second counts) where
+  pub reading-refused : (r : Reading) → passes (answer-of (h .answer)) ≡ false → r .answer ≡ h .answer → r .plan ≡ blank → RightReading bytes r
+  reading-refused r fails e p =
+      record {
+        answered = ap answer-of e ∙ right .answered;
+        held = λ yes'. absurd (passes-not (answer-of (h .answer)) fails (right .answered ∙ yes'));
+        no-plan = λ _ _. p;
+      }
+
+  pub reading-passed : passes (answer-of (h .answer)) ≡ true →
+      RightReading bytes (record { answer = h .answer; plan = plan-with h first second counts })
+  reading-passed holds =
+      record {
+        answered = right .answered;
+        held = right .held;
+        no-plan = λ number refusal.
+            let is-accepted : plan-answer bytes ≡ accepted = sym (right .answered) ∙ passes-is (answer-of (h .answer)) holds in
+            let z : _≡_ {A = ℕ} 0 1 = cc in absurd (omega arith);
+      }
 
 -- ---- the header
 
@@ -120,14 +145,14 @@ module _ (bytes : List ℕ) (h : Header) (read : HeaderRead bytes h) where
           (sym (question-10 bytes first second counts all-held) ∙ rw tasks-number at fails))
 
       pub accepted-whole : every (one-or-two counts) (drop 1 (below (h .tasks))) ≡ true → every (followed first) (below (h .tasks - 1)) ≡ true →
-          (r : Reading) → r .answer ≡ Accepted → r .plan .responsiveness ≡ h .responsiveness → r .plan .utilization ≡ h .utilization →
-          r .plan .«quantum_length» ≡ h .quantum → r .plan .tasks ≡ h .tasks →
-          r .plan .first ≡ first → r .plan .second ≡ second → r .plan .predecessors ≡ counts → RightReading bytes r
+          (r : Heading) → r .answer ≡ Accepted → r .responsiveness ≡ h .responsiveness → r .utilization ≡ h .utilization →
+          r .«quantum_length» ≡ h .quantum → r .tasks ≡ h .tasks → RightHeading bytes r first second (set counts 0 0)
       unfolding graph-questions
-      accepted-whole nine ten r e e-r e-u e-q e-n e-f e-s e-c =
+      accepted-whole nine ten r e e-r e-u e-q e-n =
           let passed =
           two-accepted 9 10 (sym (question-9 bytes first second counts all-held) ∙ rw tasks-number at nine)
           (sym (question-10 bytes first second counts all-held) ∙ rw tasks-number at ten) in
-          right-acceptance bytes r (graph-left ∙ passed) e
-          (record-holds bytes first second counts all-held (r .plan) (e-r ∙ read .fields .responsiveness-read) (e-u ∙ read .fields .utilization-read)
-          (e-q ∙ read .fields .quantum-read) (e-n ∙ tasks-number) e-f e-s e-c (graph-facts (plan-of bytes) passed))
+          right-acceptance bytes r first second (set counts 0 0) (graph-left ∙ passed) e
+          (record-holds bytes first second counts all-held (plan-with r first second (set counts 0 0)) (e-r ∙ read .fields .responsiveness-read)
+          (e-u ∙ read .fields .utilization-read) (e-q ∙ read .fields .quantum-read) (e-n ∙ tasks-number) refl refl refl
+          (graph-facts (plan-of bytes) passed))

@@ -1,20 +1,22 @@
 -- The arrays while the tasks are read: what storing one task's fields and noting its successors does.
 use mathlib.Core.Path.{_≡_, refl, sym, _∙_, ap}
-use mathlib.Core.Bool.{Bool, true, false, cond, and-false}
+use mathlib.Core.Bool.{Bool, true, false, cond, not, _&&_, and-assoc}
 use mathlib.Core.Logic.{_⊎_, ⊎-elim}
 use mathlib.Core.List.{List, List·Memᴰ·head, List·Memᴰ·tail}
 use Prim.Native.Nat.{ℕ, zero, suc, _+_, _≤_, _<_}
 use native.Mathlib.Nat.{add-zero}
+use native.Mathlib.Numerals.{add-one}
 use native.Mathlib.Omega.{arith}
-use borrow.Author.Tests.{le-ltb, le-leb, lt-leb, ne-eqb, eqb-true, eqb-false}
+use borrow.Author.Tests.{le-ltb, eqb-true, eqb-false, ltb-true}
 use lib.Dec.{leb, ltb, eqb}
-use lib.ListN.{length, getD, set, length-set}
-use lib.Seq.{getD-set-same, getD-set-other}
-use Rattle.model.specs.Tests.{member}
+use lib.ListN.{length, getD, set, drop, length-set}
+use lib.Seq.{getD-set-same, getD-set-other, set-getD}
+use mir.Val.{boolByte}
+use Rattle.model.specs.Tests.{below, every, member}
 use Rattle.model.specs.Plan.{used-fields}
 use Rattle.plan.specs.View.{Ends}
 use Rattle.plan.specs.Contracts.{saturated, noted, one-or-two, followed}
-use Rattle.plan.proofs.Lists.{last-or-below}
+use Rattle.plan.proofs.Lists.{last-or-below, every-below, every-from-one}
 use Rattle.plan.proofs.Facts.{FieldFacts, TargetFacts}
 
 -- ---- a field stored at t
@@ -49,58 +51,73 @@ saturated-next (suc (suc zero)) = refl
 saturated-next (suc (suc (suc n))) =
     rw (le-ltb (suc (suc (suc n))) 3 (omega arith), le-ltb (suc (suc (suc n)) + 1) 3 (omega arith))
 
--- a field that is 0 notes nothing
-noted-unused : (counts : List ℕ) (s : ℕ) → s ≡ 0 → noted counts s ≡ counts
-unfolding noted
-noted-unused counts s e = rw e
+-- 1 or 0 is added
+pub added : (b : Bool) (count : ℕ) → count + boolByte b ≡ cond b (count + 1) count
+added true count = refl
+added false count = add-zero count
 
-module _ (counts : List ℕ) (s : ℕ) (used : 0 < s) where
-  noted-used : noted counts s ≡ cond (ltb (getD counts s 0) 3) (set counts s (getD counts s 0 + 1)) counts
+pub added-fits : (count : ℕ) → count < 256 → count + boolByte (ltb count 3) < 256
+added-fits count l = by (ltb count 3) refl
+  where
+    by : (b : Bool) → ltb count 3 ≡ b → count + boolByte b < 256
+    by true e = omega (arith, ltb-true count 3 e)
+    by false e = omega arith
+
+module _ (counts : List ℕ) (s : ℕ) where
+  -- the count is written where nothing is noted too
+  pub noted-plainly : (count : ℕ) → count ≡ cond (ltb (getD counts s 0) 3) (getD counts s 0 + 1) (getD counts s 0) → set counts s count ≡ noted counts s
   unfolding noted
-  noted-used = rw (ne-eqb s 0 (λ e. omega arith))
+  noted-plainly count e = rw e (by (ltb (getD counts s 0) 3))
+    where
+      by : (b : Bool) → set counts s (cond b (getD counts s 0 + 1) (getD counts s 0)) ≡ cond b (set counts s (getD counts s 0 + 1)) counts
+      by true = refl
+      by false = set-getD counts s 0
 
   noted-same : s < length counts → getD (noted counts s) s 0 ≡ next (getD counts s 0)
-  unfolding next
-  noted-same l = ap (λ xs. getD xs s 0) noted-used ∙ by (ltb (getD counts s 0) 3)
+  unfolding noted next
+  noted-same l = by (ltb (getD counts s 0) 3)
     where
       by : (b : Bool) → getD (cond b (set counts s (getD counts s 0 + 1)) counts) s 0 ≡ cond b (getD counts s 0 + 1) (getD counts s 0)
       by true = getD-set-same counts s _ 0 l
       by false = refl
 
   noted-other : (u : ℕ) → (u ≡ s → ⊥) → getD (noted counts s) u 0 ≡ getD counts u 0
-  noted-other u ne = ap (λ xs. getD xs u 0) noted-used ∙ by (ltb (getD counts s 0) 3)
+  unfolding noted
+  noted-other u ne = by (ltb (getD counts s 0) 3)
     where
       by : (b : Bool) → getD (cond b (set counts s (getD counts s 0 + 1)) counts) u 0 ≡ getD counts u 0
       by true = getD-set-other counts s u _ 0 ne
       by false = refl
 
-pub length-noted : (counts : List ℕ) (s : ℕ) → length (noted counts s) ≡ length counts
-unfolding noted
-length-noted counts s = by (eqb s 0) (ltb (getD counts s 0) 3)
-  where
-    by : (a b : Bool) → length (cond a counts (cond b (set counts s (getD counts s 0 + 1)) counts)) ≡ length counts
-    by true b = refl
-    by false true = length-set counts s _
-    by false false = refl
+  pub length-noted : length (noted counts s) ≡ length counts
+  unfolding noted
+  length-noted = by (ltb (getD counts s 0) 3)
+    where
+      by : (b : Bool) → length (cond b (set counts s (getD counts s 0 + 1)) counts) ≡ length counts
+      by true = length-set counts s _
+      by false = refl
 
 pub noted-ends : (n : ℕ) (counts : List ℕ) (s : ℕ) → s < n → Ends n counts → Ends n (noted counts s)
-noted-ends n counts zero l ends = rw (noted-unused counts 0 refl) ends
-noted-ends n counts (suc s) l ends =
+noted-ends n counts s l ends =
     record {
-      places = length-noted counts (suc s) ∙ ends .places;
-      nothing-past = λ u m. noted-other counts (suc s) (omega arith) u (λ e. omega arith) ∙ ends .nothing-past u m;
+      places = length-noted counts s ∙ ends .places;
+      nothing-past = λ u m. noted-other counts s u (λ e. omega arith) ∙ ends .nothing-past u m;
     }
 
--- one successor s more
-note-one : (old : ℕ → ℕ) (counts : List ℕ) (s : ℕ) → 0 < s → s < length counts → ((u : ℕ) → getD counts u 0 ≡ saturated (old u)) →
-    (u : ℕ) → getD (noted counts s) u 0 ≡ saturated (old u + cond (eqb u s) 1 0)
-note-one old counts s p l h u = by (eqb u s) refl
+-- one successor s more, and what is said of every task from 1
+note-one : (old : ℕ → ℕ) (counts : List ℕ) (s : ℕ) → 0 < s → s < length counts → ((u : ℕ) → 1 ≤ u → getD counts u 0 ≡ saturated (old u)) →
+    (u : ℕ) → 1 ≤ u → getD (noted counts s) u 0 ≡ saturated (old u + cond (eqb u s) 1 0)
+note-one old counts s p l h u m = by (eqb u s) refl
   where
     by : (b : Bool) → eqb u s ≡ b → getD (noted counts s) u 0 ≡ saturated (old u + cond b 1 0)
     by true e =
         ap (λ v. getD (noted counts s) v 0) (eqb-true u s e)
-        ∙ (noted-same counts s p l ∙ (ap next (h s) ∙ (saturated-next (old s) ∙ ap (λ v. saturated (old v + 1)) (sym (eqb-true u s e)))))
-    by false e = noted-other counts s p u (eqb-false u s e) ∙ (h u ∙ ap saturated (sym (add-zero (old u))))
+        ∙ (noted-same counts s l ∙ (ap next (h s p) ∙ (saturated-next (old s) ∙ ap (λ v. saturated (old v + 1)) (sym (eqb-true u s e)))))
+    by false e = noted-other counts s u (eqb-false u s e) ∙ (h u m ∙ ap saturated (sym (add-zero (old u))))
+
+-- an unused field is noted at task 0 alone
+noted-unused : (counts : List ℕ) (s u : ℕ) → s ≡ 0 → 1 ≤ u → getD (noted counts s) u 0 ≡ getD counts u 0
+noted-unused counts s u e m = noted-other counts s u (λ same. omega arith)
 
 as-test : (b : Bool) → cond b true false ≡ b
 as-test true = refl
@@ -118,44 +135,38 @@ either o u a b ne = by (eqb u a) (eqb u b) refl refl
 
 -- the successors of a task that 7 and 8 pass: each count is one more where the task is among them
 pub note-successors : (old : ℕ → ℕ) (counts : List ℕ) (n t count first second : ℕ) → length counts ≡ 1024 → n ≤ 1024 →
-    FieldFacts count first second → TargetFacts n t (used-fields count first second) → ((u : ℕ) → getD counts u 0 ≡ saturated (old u)) →
-    (u : ℕ) → getD (noted (noted counts first) second) u 0 ≡ saturated (old u + cond (member u (used-fields count first second)) 1 0)
+    FieldFacts count first second → TargetFacts n t (used-fields count first second) → ((u : ℕ) → 1 ≤ u → getD counts u 0 ≡ saturated (old u)) →
+    (u : ℕ) → 1 ≤ u → getD (noted (noted counts first) second) u 0 ≡ saturated (old u + cond (member u (used-fields count first second)) 1 0)
 unfolding member
-note-successors old counts n t zero first second size small f g h u =
-    ap (λ xs. getD xs u 0) (noted-unused (noted counts first) second (f .second-unused (omega arith)) ∙ noted-unused counts first (f .first-unused refl))
-    ∙ (h u ∙ ap saturated (sym (add-zero (old u))))
-note-successors old counts n t (suc zero) first second size small f g h u =
+note-successors old counts n t zero first second size small f g h u m =
+    noted-unused (noted counts first) second u (f .second-unused (omega arith)) m
+    ∙ (noted-unused counts first u (f .first-unused refl) m ∙ (h u m ∙ ap saturated (sym (add-zero (old u)))))
+note-successors old counts n t (suc zero) first second size small f g h u m =
     let up : t < first = g .upward first (List·Memᴰ·head refl) in
     let low : first < n = g .inside first (List·Memᴰ·head refl) in
-    ap (λ xs. getD xs u 0) (noted-unused (noted counts first) second (f .second-unused (omega arith)))
-    ∙ (note-one old counts first (omega arith) (omega arith) h u ∙ ap (λ b. saturated (old u + cond b 1 0)) (sym (as-test (eqb u first))))
-note-successors old counts n t (suc (suc more)) first second size small f g h u =
+    noted-unused (noted counts first) second u (f .second-unused (omega arith)) m
+    ∙ (note-one old counts first (omega arith) (omega arith) h u m ∙ ap (λ b. saturated (old u + cond b 1 0)) (sym (as-test (eqb u first))))
+note-successors old counts n t (suc (suc more)) first second size small f g h u m =
     let up : t < first = g .upward first (List·Memᴰ·head refl) in
     let low : first < n = g .inside first (List·Memᴰ·head refl) in
     let up-2 : t < second = g .upward second (List·Memᴰ·tail (List·Memᴰ·head refl)) in
     let low-2 : second < n = g .inside second (List·Memᴰ·tail (List·Memᴰ·head refl)) in
     note-one (λ v. old v + cond (eqb v first) 1 0) (noted counts first) second (omega arith) (omega (arith, length-noted counts first))
-    (note-one old counts first (omega arith) (omega arith) h) u
+    (note-one old counts first (omega arith) (omega arith) h) u m
     ∙ ap saturated (either (old u) u first second (g .apart first second refl))
 
--- ---- the tests of questions 9 and 10
+-- ---- the tests of questions 9 and 10, of one task more
 
-pub too-few : (counts : List ℕ) (t : ℕ) → getD counts t 0 < 1 → one-or-two counts t ≡ false
+pub more-preceded : (counts : List ℕ) (t : ℕ) (all : Bool) → 1 ≤ t → all ≡ every (one-or-two counts) (drop 1 (below t)) →
+    (all && leb 1 (getD counts t 0) && leb (getD counts t 0) 2) ≡ every (one-or-two counts) (drop 1 (below (t + 1)))
 unfolding one-or-two
-too-few counts t h = rw (lt-leb 1 (getD counts t 0) h)
+more-preceded counts t all l e =
+    and-assoc all (leb 1 (getD counts t 0)) (leb (getD counts t 0) 2)
+    ∙ (ap (λ b. b && one-or-two counts t) e
+    ∙ sym (ap (λ n. every (one-or-two counts) (drop 1 (below n))) (add-one t) ∙ every-from-one (one-or-two counts) t l))
 
-pub too-many : (counts : List ℕ) (t : ℕ) → 2 < getD counts t 0 → one-or-two counts t ≡ false
-unfolding one-or-two
-too-many counts t h = rw (lt-leb (getD counts t 0) 2 h, and-false (leb 1 (getD counts t 0)))
-
-pub enough : (counts : List ℕ) (t : ℕ) → 1 ≤ getD counts t 0 → getD counts t 0 ≤ 2 → one-or-two counts t ≡ true
-unfolding one-or-two
-enough counts t a b = rw (le-leb 1 (getD counts t 0) a, le-leb (getD counts t 0) 2 b)
-
-pub loose : (first : List ℕ) (t : ℕ) → getD first t 0 ≡ 0 → followed first t ≡ false
+pub more-followed : (first : List ℕ) (t : ℕ) (all : Bool) → all ≡ every (followed first) (below t) →
+    (all && not (eqb (getD first t 0) 0)) ≡ every (followed first) (below (t + 1))
 unfolding followed
-loose first t e = rw e
-
-pub tied : (first : List ℕ) (t : ℕ) → (getD first t 0 ≡ 0 → ⊥) → followed first t ≡ true
-unfolding followed
-tied first t h = rw (ne-eqb (getD first t 0) 0 h)
+more-followed first t all e =
+    ap (λ b. b && followed first t) e ∙ sym (ap (λ n. every (followed first) (below n)) (add-one t) ∙ every-below (followed first) t)

@@ -30,13 +30,6 @@ pub second-holds : (a b : Bool) → (a && b) ≡ true → b ≡ true
 second-holds true b h = h
 second-holds false b h = let z : _≡_ {A = Bool} true false = sym h in cc
 
-pub first-fails : {a : Bool} (b : Bool) → a ≡ false → (a && b) ≡ false
-first-fails b p = rw p
-
-pub second-fails : (a : Bool) {b : Bool} → b ≡ false → (a && b) ≡ false
-second-fails true p = p
-second-fails false p = refl
-
 -- a number is the last below a bound, or below the one before
 pub last-or-below : (t n : ℕ) → t < suc n → (t ≡ n) ⊎ (t < n)
 last-or-below t n h = from (outcome (eqb t n))
@@ -145,15 +138,6 @@ module _ {A : Type 0} where
       (λ l. every-at test ys (second-holds (test y) (every test ys) h) x l)
       (List·Memᴰ·cases-cons m)
 
-  pub every-fails : (test : A → Bool) (xs : List A) (x : A) → List·Memᴰ x xs → test x ≡ false → every test xs ≡ false
-  unfolding every
-  every-fails test [] x m h = absurd (List·Memᴰ·not-nil m)
-  every-fails test (y ∷ ys) x m h =
-      ⊎-elim
-      (λ e. first-fails (every test ys) (sym (ap test e) ∙ h))
-      (λ l. second-fails (test y) (every-fails test ys x l h))
-      (List·Memᴰ·cases-cons m)
-
   pub every-cong : (f g : A → Bool) (xs : List A) → ((x : A) → List·Memᴰ x xs → f x ≡ g x) → every f xs ≡ every g xs
   unfolding every
   every-cong f g [] h = refl
@@ -168,6 +152,12 @@ module _ {A : Type 0} where
 pub every-below : (test : ℕ → Bool) (n : ℕ) → every test (below (suc n)) ≡ (every test (below n) && test n)
 unfolding below
 every-below test n = every-append test (below n) n
+
+-- one number more of those from 1
+pub every-from-one : (test : ℕ → Bool) (t : ℕ) → 1 ≤ t → every test (drop 1 (below (suc t))) ≡ (every test (drop 1 (below t)) && test t)
+unfolding below
+every-from-one test t l =
+    ap (every test) (drop-append-le 1 (below t) (t ∷ []) (omega (arith, length-below t))) ∙ every-append test (drop 1 (below t)) t
 
 -- ---- keep and member
 

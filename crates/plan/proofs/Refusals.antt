@@ -1,15 +1,19 @@
 -- The first "no" of fields that were read, from the tests of the code: one law for each way out.
-use mathlib.Core.Path.{_≡_, refl, sym, ap}
-use mathlib.Core.Bool.{and-false}
+use mathlib.Core.Path.{_≡_, refl, sym, _∙_, ap}
+use mathlib.Core.Bool.{Bool, true, false, cond, not, _&&_, and-false}
 use mathlib.Core.List.{[], _∷_}
-use Prim.Native.Nat.{ℕ, zero, suc, _+_, _*_, _≤_, _<_}
+use Prim.Native.Nat.{ℕ, zero, suc, _+_, _*_, _-_, _≤_, _<_}
 use native.Mathlib.Omega.{arith}
-use borrow.Author.Tests.{lt-ltb, le-ltb, le-leb, lt-leb, eq-eqb, ne-eqb}
-use lib.Dec.{eqb}
+use borrow.Author.Tests.{ltb-true, le-ltb, le-leb, lt-leb, eq-eqb, ne-eqb}
+use mir.Val.{boolByte}
+use lib.Dec.{leb, ltb, eqb}
 use Rattle.model.specs.Tests.{every}
 use Rattle.model.specs.Questions.{accepted, refused, ask, first-no}
 use Rattle.model.specs.Plan.{used-fields, fields-ok, two-differ, targets-ok}
+use Rattle.plan.specs.Answers.{passes}
 use Rattle.plan.specs.Contracts.{field-questions, pair-questions}
+use Rattle.plan.proofs.Lists.{second-holds}
+use Rattle.plan.proofs.Asked.{passes-is}
 
 -- ---- questions 2 to 6
 
@@ -72,44 +76,70 @@ module _ (n t count first second : ℕ) where
   unfolding pair-questions first-no fields-ok targets-ok every two-differ
   none e f s = rw (e, f, s)
 
-  pub one-low : count ≡ 1 → second ≡ 0 → first ≤ t → refused 8 ≡ first-no (pair-questions n t count first second)
+-- ---- 7 and 8 of a task with successors, with no branch between one and two
+
+pub bit-small : (b : Bool) → boolByte b ≤ 2
+bit-small true = omega arith
+bit-small false = omega arith
+
+module _ (n t first : ℕ) where
+  fits-one : (count : ℕ) →
+      (eqb count 1 && ltb t first && ltb first n && ltb t first && ltb first n && not (eqb first 0))
+      ≡ (leb 1 count && passes (first-no (pair-questions n t count first 0)))
   unfolding pair-questions first-no fields-ok targets-ok every two-differ
-  one-low e s h = rw (e, s, le-ltb t first h)
+  fits-one zero = refl
+  fits-one (suc zero) = by (ltb t first) refl (ltb first n)
+    where
+      by : (a : Bool) → ltb t first ≡ a → (b : Bool) →
+          (a && b && a && b && not (eqb first 0)) ≡ passes (first-no (ask true 7 ∷ ask ((a && b && true) && true) 8 ∷ []))
+      by true e true = let up : t < first = ltb-true t first e in rw (ne-eqb first 0 (λ z. omega arith))
+      by true e false = refl
+      by false e b = refl
+  fits-one (suc (suc zero)) = rw (le-ltb t 0 (omega arith)) (by (ltb t first) (ltb first n))
+    where
+      by : (a b : Bool) → false ≡ passes (first-no (ask true 7 ∷ ask ((a && b && false) && not (eqb first 0)) 8 ∷ []))
+      by true true = refl
+      by true false = refl
+      by false b = refl
+  fits-one (suc (suc (suc more))) = rw (ne-eqb (suc (suc (suc more))) 1 (λ e. omega arith), le-leb 1 (suc (suc (suc more))) (omega arith))
 
-  pub one-high : count ≡ 1 → second ≡ 0 → t < first → n ≤ first → refused 8 ≡ first-no (pair-questions n t count first second)
+  fits-two : (count second : ℕ) → (second ≡ 0 → ⊥) →
+      (eqb count 2 && ltb t first && ltb first n && ltb t second && ltb second n && not (eqb first second))
+      ≡ (leb 1 count && passes (first-no (pair-questions n t count first second)))
   unfolding pair-questions first-no fields-ok targets-ok every two-differ
-  one-high e s g h = rw (e, s, lt-ltb t first g, le-ltb first n h)
+  fits-two zero second h = refl
+  fits-two (suc zero) second h = rw (ne-eqb second 0 h)
+  fits-two (suc (suc zero)) second h = by (ltb t first) (ltb first n) (ltb t second) (ltb second n) (eqb first second)
+    where
+      by : (a b c d e : Bool) → (a && b && c && d && not e) ≡ passes (first-no (ask true 7 ∷ ask ((a && b && (c && d && true)) && not e) 8 ∷ []))
+      by true true true true true = refl
+      by true true true true false = refl
+      by true true true false e = refl
+      by true true false d e = refl
+      by true false c d e = refl
+      by false b c d e = refl
+  fits-two (suc (suc (suc more))) second h = rw (ne-eqb (suc (suc (suc more))) 2 (λ e. omega arith), le-leb 1 (suc (suc (suc more))) (omega arith))
 
-  pub one : count ≡ 1 → second ≡ 0 → t < first → first < n → accepted ≡ first-no (pair-questions n t count first second)
-  unfolding pair-questions first-no fields-ok targets-ok every two-differ
-  one e s g h = rw (e, s, lt-ltb t first g, lt-ltb first n h)
+  pub fits-asked : (count second last : ℕ) → last ≡ cond (eqb second 0) first second →
+      (eqb count (2 - boolByte (eqb second 0)) && ltb t first && ltb first n && ltb t last && ltb last n && not (eqb first second))
+      ≡ (leb 1 count && passes (first-no (pair-questions n t count first second)))
+  fits-asked count zero last e = rw e (fits-one count)
+  fits-asked count (suc s) last e = rw (e, ne-eqb (suc s) 0 (λ z. omega arith)) (fits-two count (suc s) (λ z. omega arith))
 
-  pub two-counted : count ≡ 2 → first-no (pair-questions n t 2 first second) ≡ first-no (pair-questions n t count first second)
-  two-counted e = ap (λ k. first-no (pair-questions n t k first second)) (sym e)
+module _ (n t count first second : ℕ) (r : Bool) (asked : r ≡ (leb 1 count && passes (first-no (pair-questions n t count first second)))) where
+  pub fitting : r ≡ true → accepted ≡ first-no (pair-questions n t count first second)
+  fitting yes' = sym (passes-is _ (second-holds (leb 1 count) _ (sym asked ∙ yes')))
 
--- ---- two successors
+  -- 7 passes, so that it is 8 that does not
+  not-eight : (b : Bool) → passes (first-no (ask true 7 ∷ ask b 8 ∷ [])) ≡ false → refused 8 ≡ first-no (ask true 7 ∷ ask b 8 ∷ [])
+  unfolding first-no
+  not-eight true h = let z : _≡_ {A = Bool} true false = h in absurd (let w : _≡_ {A = ℕ} 0 1 = cc in omega arith)
+  not-eight false h = refl
 
-module _ (n t first second : ℕ) where
-  pub two-first-low : first ≤ t → refused 8 ≡ first-no (pair-questions n t 2 first second)
-  unfolding pair-questions first-no fields-ok targets-ok every two-differ
-  two-first-low a = rw (le-ltb t first a)
+  pub two-unfit : r ≡ false → count ≡ 2 → refused 8 ≡ first-no (pair-questions n t count first second)
+  unfolding pair-questions fields-ok
+  two-unfit no' e = rw e (not-eight _ (sym (rw e at asked) ∙ no'))
 
-  pub two-first-high : t < first → n ≤ first → refused 8 ≡ first-no (pair-questions n t 2 first second)
-  unfolding pair-questions first-no fields-ok targets-ok every two-differ
-  two-first-high a b = rw (lt-ltb t first a, le-ltb first n b)
-
-  pub two-second-low : t < first → first < n → second ≤ t → refused 8 ≡ first-no (pair-questions n t 2 first second)
-  unfolding pair-questions first-no fields-ok targets-ok every two-differ
-  two-second-low a b c = rw (lt-ltb t first a, lt-ltb first n b, le-ltb t second c)
-
-  pub two-second-high : t < first → first < n → t < second → n ≤ second → refused 8 ≡ first-no (pair-questions n t 2 first second)
-  unfolding pair-questions first-no fields-ok targets-ok every two-differ
-  two-second-high a b c d = rw (lt-ltb t first a, lt-ltb first n b, lt-ltb t second c, le-ltb second n d)
-
-  pub two-same : t < first → first < n → t < second → second < n → first ≡ second → refused 8 ≡ first-no (pair-questions n t 2 first second)
-  unfolding pair-questions first-no fields-ok targets-ok every two-differ
-  two-same a b c d e = rw (lt-ltb t first a, lt-ltb first n b, lt-ltb t second c, lt-ltb second n d, eq-eqb first second e)
-
-  pub two : t < first → first < n → t < second → second < n → (first ≡ second → ⊥) → accepted ≡ first-no (pair-questions n t 2 first second)
-  unfolding pair-questions first-no fields-ok targets-ok every two-differ
-  two a b c d e = rw (lt-ltb t first a, lt-ltb first n b, lt-ltb t second c, lt-ltb second n d, ne-eqb first second e)
+  pub one-unfit : r ≡ false → count ≡ 1 → second ≡ 0 → refused 8 ≡ first-no (pair-questions n t count first second)
+  unfolding pair-questions fields-ok
+  one-unfit no' e s = rw (e, s) (not-eight _ (sym (rw (e, s) at asked) ∙ no'))

@@ -68,9 +68,9 @@ module _ (bytes : List ℕ) (t : ℕ) (passed : first-no (task-questions bytes t
         accepted-so-far = first-no-below (task-questions bytes) t ∙ (ap (λ a. and-then a (first-no (task-questions bytes t))) (h .accepted-so-far) ∙ passed);
         first-held = stored-held (first-field bytes) first t (h .first-ends) small (h .first-held);
         second-held = stored-held (second-field bytes) second t (h .second-ends) small (h .second-held);
-        counts-held = λ u.
+        counts-held = λ u m.
             note-successors (counted bytes t) counts (task-count bytes) t (count-field bytes t) (first-field bytes t) (second-field bytes t)
-            (h .counts-ends .places) (omega arith) (facts .fields) (facts .targets) (h .counts-held) u
+            (h .counts-ends .places) (omega arith) (facts .fields) (facts .targets) (h .counts-held) u m
             ∙ ap saturated (sym (keep-below (λ p. member u (successor-fields bytes p)) t));
         first-ends = stored-ends (first-field bytes) first t (h .first-ends) small;
         second-ends = stored-ends (second-field bytes) second t (h .second-ends) small;

@@ -6,7 +6,8 @@ use Prim.Native.Nat.{ℕ, zero, suc, _+_, _-_, _≤_, _<_}
 use native.Mathlib.Omega.{arith}
 use borrow.Author.Tests.{le-leb, lt-leb, lt-ltb, le-ltb, eq-eqb, ne-eqb}
 use lib.Dec.{leb, eqb}
-use lib.ListN.{length, getD, drop, replicate, length-replicate}
+use lib.ListN.{length, getD, set, drop, replicate, length-set, length-replicate}
+use lib.Seq.{getD-set-same, getD-set-other}
 use Rattle.model.specs.Tests.{below, every, keep, is-empty, member}
 use Rattle.model.specs.Questions.{first-no}
 use Rattle.model.specs.Plan.{tasks, successors-of, predecessors, responsiveness-field, utilization-field, quantum-length-field, task-count, count-field, first-field, second-field, used-fields, successor-fields, plan-of, task-questions, all-preceded, one-exit}
@@ -14,7 +15,7 @@ use Rattle.plan.specs.declared.PlanRecord.{PlanRecord}
 use Rattle.plan.specs.View.{shown, successors-at, successors-view, plan-view, Ends}
 use Rattle.plan.specs.Contracts.{saturated, counted, Held, one-or-two, followed}
 use Rattle.plan.specs.Promise.{Holds}
-use Rattle.plan.proofs.Lists.{below-mem, map-cong, every-cong, every-below, keep-cong, keep-none, not-member}
+use Rattle.plan.proofs.Lists.{below-mem, from-one-mem, map-cong, every-cong, every-below, keep-cong, keep-none, not-member}
 use Rattle.plan.proofs.Asked.{accepted-at}
 use Rattle.plan.proofs.Facts.{tasks-of, successors-given, FieldFacts, TargetFacts, TaskFacts, task-facts}
 use Rattle.plan.proofs.Sound.{GraphFacts}
@@ -84,13 +85,22 @@ module _ (bytes first second counts : List ℕ) (held : Held bytes (task-count b
       (λ p m. not-member 0 (successor-fields bytes p)
       (λ s k e. let up : p < s = task-at p (below-mem p (task-count bytes) m) .targets .upward s k in omega arith)))
 
-  pub counts-are : GraphFacts (plan-of bytes) → (t : ℕ) → t < task-count bytes → getD counts t 0 ≡ length (predecessors (plan-of bytes) t)
+  -- with 0 at task 0, whose count has the unused fields
+  pub counts-are : GraphFacts (plan-of bytes) → (t : ℕ) → t < task-count bytes → getD (set counts 0 0) t 0 ≡ length (predecessors (plan-of bytes) t)
   counts-are graph zero l =
-      held .counts-held 0 ∙ (ap saturated first-task ∙ (saturated-small 0 (omega arith) ∙ sym (predecessors-counted bytes 0 ∙ first-task)))
+      getD-set-same counts 0 0 0 (omega (arith, held .counts-ends .places)) ∙ sym (predecessors-counted bytes 0 ∙ first-task)
   counts-are graph (suc t) l =
-      held .counts-held (suc t)
+      getD-set-other counts 0 (suc t) 0 0 (λ e. omega arith)
+      ∙ (held .counts-held (suc t) (omega arith)
       ∙ (ap saturated (sym (predecessors-counted bytes (suc t)))
-      ∙ saturated-small (length (predecessors (plan-of bytes) (suc t))) (graph .preceded-twice (suc t) (omega arith) (rw (tasks-of bytes) l)))
+      ∙ saturated-small (length (predecessors (plan-of bytes) (suc t))) (graph .preceded-twice (suc t) (omega arith) (rw (tasks-of bytes) l))))
+
+  counts-end : Ends (task-count bytes) (set counts 0 0)
+  counts-end =
+      record {
+        places = length-set counts 0 0 ∙ held .counts-ends .places;
+        nothing-past = λ t l. getD-set-other counts 0 t 0 0 (λ e. omega arith) ∙ held .counts-ends .nothing-past t l;
+      }
 
   -- ---- questions 9 and 10, of the arrays
 
@@ -99,7 +109,7 @@ module _ (bytes first second counts : List ℕ) (held : Held bytes (task-count b
   question-9 =
       rw (tasks-of bytes)
       (every-cong _ _ (drop 1 (below (task-count bytes)))
-      (λ t _. rw (held .counts-held t, predecessors-counted bytes t, saturated-some, saturated-two)))
+      (λ t m. rw (held .counts-held t (from-one-mem t (task-count bytes) m .0), predecessors-counted bytes t, saturated-some, saturated-two)))
 
   successors-shown : (t : ℕ) → t < task-count bytes → successors-at first second t ≡ successor-fields bytes t
   unfolding successors-at successor-fields
@@ -154,7 +164,7 @@ module _ (bytes first second counts : List ℕ) (held : Held bytes (task-count b
 
   pub record-holds : (plan : PlanRecord) → plan .responsiveness ≡ responsiveness-field bytes → plan .utilization ≡ utilization-field bytes →
       plan .«quantum_length» ≡ quantum-length-field bytes → plan .tasks ≡ task-count bytes →
-      plan .first ≡ first → plan .second ≡ second → plan .predecessors ≡ counts → GraphFacts (plan-of bytes) → Holds bytes plan
+      plan .first ≡ first → plan .second ≡ second → plan .predecessors ≡ set counts 0 0 → GraphFacts (plan-of bytes) → Holds bytes plan
   unfolding plan-view plan-of
   record-holds plan r u q n f s c graph =
       record {
@@ -162,7 +172,7 @@ module _ (bytes first second counts : List ℕ) (held : Held bytes (task-count b
         preceded = λ t l. rw c (counts-are graph t (omega arith));
         first-ends = rw (n, f) (held .first-ends);
         second-ends = rw (n, s) (held .second-ends);
-        predecessors-ends = rw (n, c) (held .counts-ends);
+        predecessors-ends = rw (n, c) counts-end;
       }
 
 -- ---- before the first task: arrays of zeros
@@ -183,7 +193,7 @@ nothing-held bytes first second counts f s c =
       accepted-so-far = refl;
       first-held = λ t l. absurd (omega arith);
       second-held = λ t l. absurd (omega arith);
-      counts-held = λ t. ap (λ l. getD l t 0) c ∙ getD-zeros 1024 t;
+      counts-held = λ t _. ap (λ l. getD l t 0) c ∙ getD-zeros 1024 t;
       first-ends = zeros-end 0 first f;
       second-ends = zeros-end 0 second s;
       counts-ends = zeros-end (task-count bytes) counts c;

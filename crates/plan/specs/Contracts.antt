@@ -2,7 +2,7 @@
 use mathlib.Core.Path.{_≡_}
 use mathlib.Core.Bool.{Bool, cond, not, _&&_}
 use mathlib.Core.List.{List, [], _∷_, flatMap}
-use Prim.Native.Nat.{ℕ, _+_, _*_, _-_, _<_}
+use Prim.Native.Nat.{ℕ, _+_, _*_, _-_, _≤_, _<_}
 use lib.Dec.{leb, ltb, eqb}
 use lib.ListN.{length, getD, set}
 use Rattle.model.specs.Tests.{below, keep, member}
@@ -64,20 +64,21 @@ pub record HeaderRead (bytes : List ℕ) (h : Header) : Type 0 where
 unfoldable pub saturated : ℕ → ℕ
 saturated n = cond (ltb n 3) n 3
 
--- one more predecessor of the task s, where s is a used field and the count is below 3
+-- one more predecessor of the task s, where the count is below 3
 unfoldable pub noted : List ℕ → ℕ → List ℕ
-noted counts s = cond (eqb s 0) counts (cond (ltb (getD counts s 0) 3) (set counts s (getD counts s 0 + 1)) counts)
+noted counts s = cond (ltb (getD counts s 0) 3) (set counts s (getD counts s 0 + 1)) counts
 
 -- how many of the tasks below i have t as a successor
 unfoldable pub counted : List ℕ → ℕ → ℕ → ℕ
 counted bytes i t = length (keep (λ p. member t (successor-fields bytes p)) (below i))
 
--- the tasks below i are read and accepted, and the arrays hold their fields and nothing else
+-- the tasks below i are read and accepted, and the arrays hold their fields and nothing else, but for the count of task 0: there the
+-- unused fields are noted
 pub record Held (bytes : List ℕ) (i : ℕ) (first second counts : List ℕ) : Type 0 where
   pub accepted-so-far : first-no (flatMap (task-questions bytes) (below i)) ≡ accepted
   pub first-held : (t : ℕ) → t < i → getD first t 0 ≡ first-field bytes t
   pub second-held : (t : ℕ) → t < i → getD second t 0 ≡ second-field bytes t
-  pub counts-held : (t : ℕ) → getD counts t 0 ≡ saturated (counted bytes i t)
+  pub counts-held : (t : ℕ) → 1 ≤ t → getD counts t 0 ≡ saturated (counted bytes i t)
   pub first-ends : Ends i first
   pub second-ends : Ends i second
   pub counts-ends : Ends (task-count bytes) counts

@@ -7,6 +7,8 @@ use Rattle.model.specs.Questions.{accepted, refused}
 use Rattle.model.specs.Plan.{predecessors, plan-of, plan-answer}
 use Rattle.plan.specs.declared.PlanRecord.{PlanRecord}
 use Rattle.plan.specs.declared.Reading.{Reading}
+use Rattle.plan.specs.declared.Heading.{Heading}
+use Rattle.plan.specs.declared.PlanAnswer.{PlanAnswer}
 use Rattle.plan.specs.Answers.{answer-of}
 use Rattle.plan.specs.View.{plan-view, Ends}
 
@@ -36,3 +38,29 @@ pub record RightReading (bytes : List ℕ) (r : Reading) : Type 0 where
   pub answered : answer-of (r .answer) ≡ plan-answer bytes
   pub held : plan-answer bytes ≡ accepted → Holds bytes (r .plan)
   pub no-plan : (number : ℕ) → plan-answer bytes ≡ refused number → r .plan ≡ blank
+
+-- ---- reading into lent arrays
+
+-- the plan that a heading and the arrays hold
+abbrev pub plan-with : Heading → List ℕ → List ℕ → List ℕ → PlanRecord
+plan-with r first second predecessors =
+    record {
+      responsiveness = r .responsiveness;
+      utilization = r .utilization;
+      «quantum_length» = r .«quantum_length»;
+      tasks = r .tasks;
+      first = first;
+      second = second;
+      predecessors = predecessors;
+    }
+
+-- what stands beside a refusal
+abbrev pub no-heading : PlanAnswer → Heading
+no-heading answer = record { answer = answer; responsiveness = 0; utilization = 0; «quantum_length» = 0; tasks = 0 }
+
+-- the answer is the first "no"; where there is none, the heading and the arrays hold the plan; a refusal leaves zeros in the heading, and
+-- promises nothing of the arrays
+pub record RightHeading (bytes : List ℕ) (r : Heading) (first second predecessors : List ℕ) : Type 0 where
+  pub answered : answer-of (r .answer) ≡ plan-answer bytes
+  pub held : plan-answer bytes ≡ accepted → Holds bytes (plan-with r first second predecessors)
+  pub no-plan : (number : ℕ) → plan-answer bytes ≡ refused number → r ≡ no-heading (r .answer)

@@ -1,12 +1,14 @@
 // A plan's bytes become the plan, or the number of the first question whose answer is no. Nothing is asked of the bytes.
 ghost use mathlib.Core.Path.{_≡_};
-ghost use Prim.Native.Nat.{_-_, _≤_, _<_};
+ghost use mathlib.Core.Bool.{cond, _&&_};
+ghost use Prim.Native.Nat.{_+_, _-_, _≤_, _<_};
+ghost use lib.Dec.{leb, ltb, eqb};
 ghost use lib.ListN.{drop};
 ghost use Rattle.model.specs.Tests.{below, every};
 ghost use Rattle.model.specs.Questions.{first-no, answer-number};
 ghost use Rattle.plan.specs.Answers.{answer-of, passes};
 ghost use Rattle.plan.specs.Contracts.{HeaderOf, five-bytes, TaskOf, three-bytes, field-questions, pair-questions, noted, Due, TaskRead, TasksRead, one-or-two, followed, HeaderRead};
-ghost use Rattle.plan.specs.Promise.{blank, RightReading};
+ghost use Rattle.plan.specs.Promise.{blank, no-heading, RightReading, RightHeading};
 
 // One case for each number of the paper, which answer-of gives.
 pub enum PlanAnswer {
@@ -39,6 +41,15 @@ pub struct PlanRecord {
 pub struct Reading {
     pub answer: PlanAnswer,
     pub plan: PlanRecord,
+}
+
+// The answer, and the plan's numbers where it is Accepted; zeros beside a refusal.
+pub struct Heading {
+    pub answer: PlanAnswer,
+    pub responsiveness: u8,
+    pub utilization: u8,
+    pub quantum_length: u16,
+    pub tasks: u16,
 }
 
 // The header's fields, with the number of tasks itself and not one less.
@@ -137,68 +148,67 @@ fn task_of(a: u8, b: u8, c: u8) -> TaskFields
     }
 }
 
+// The second of two fields, or the first where it is unused.
+fn last_used(first: usize, second: usize) -> usize
+    ensures { λ r. ⌜ r ≡ cond (eqb second 0) first second ⌝ }
+{
+    if second == 0 {
+        return first;
+    }
+    second
+}
+
+// The task t of n has successors, and 7 and 8 pass. So it is with nearly every task: no branch tells one successor from two.
+fn fits(f: TaskFields, t: usize, n: usize) -> bool
+    ensures { λ r. ⌜ r ≡ (leb 1 (f .count) && passes (first-no (pair-questions n t (f .count) (f .first) (f .second)))) ⌝ }
+{
+    let last = last_used(f.first, f.second);
+    (f.count == 2 - (f.second == 0) as usize)
+        & (t < f.first)
+        & (f.first < n)
+        & (t < last)
+        & (last < n)
+        & (f.first != f.second)
+}
+
 // Questions 7 and 8 of the task t of n.
 fn task_answer(f: TaskFields, t: usize, n: usize) -> PlanAnswer
     ensures { λ r. ⌜ answer-of r ≡ first-no (pair-questions n t (f .count) (f .first) (f .second)) ⌝ }
 {
+    if fits(f, t, n) {
+        return PlanAnswer::Accepted;
+    }
     if f.count > 2 {
         return PlanAnswer::BadFields;
     }
     if f.count == 2 {
-        return two_answer(f.first, f.second, t, n);
+        return PlanAnswer::BadSuccessors;
     }
     if f.second != 0 {
         return PlanAnswer::BadFields;
     }
-    if f.count == 0 {
-        if f.first != 0 {
-            return PlanAnswer::BadFields;
-        }
-        return PlanAnswer::Accepted;
-    }
-    if f.first <= t {
+    if f.count == 1 {
         return PlanAnswer::BadSuccessors;
     }
-    if f.first >= n {
-        return PlanAnswer::BadSuccessors;
+    if f.first != 0 {
+        return PlanAnswer::BadFields;
     }
     PlanAnswer::Accepted
 }
 
-// Question 8 of a task with two successors.
-fn two_answer(first: usize, second: usize, t: usize, n: usize) -> PlanAnswer
-    ensures { λ r. ⌜ answer-of r ≡ first-no (pair-questions n t 2 first second) ⌝ }
+// One more, up to 3; with no branch.
+fn one_more(count: u8) -> u8
+    ensures { λ r. ⌜ r ≡ cond (ltb count 3) (count + 1) count ⌝ }
 {
-    if first <= t {
-        return PlanAnswer::BadSuccessors;
-    }
-    if first >= n {
-        return PlanAnswer::BadSuccessors;
-    }
-    if second <= t {
-        return PlanAnswer::BadSuccessors;
-    }
-    if second >= n {
-        return PlanAnswer::BadSuccessors;
-    }
-    if first == second {
-        return PlanAnswer::BadSuccessors;
-    }
-    PlanAnswer::Accepted
+    count + (count < 3) as u8
 }
 
-// One predecessor more for the task s, up to 3; a field that is 0 names no task.
+// One predecessor more for the task s, up to 3. An unused field is noted at task 0, which has none.
 fn note(counts: &mut [u8; 1024], s: usize)
     requires { ⌜ s < 1024 ⌝ }
     ensures { λ _. ⌜ now (counts .exit) ≡ noted (now (counts .entry)) s ⌝ }
 {
-    if s == 0 {
-        return;
-    }
-    let count = counts[s];
-    if count < 3 {
-        counts[s] = count + 1;
-    }
+    counts[s] = one_more(counts[s]);
 }
 
 // Reads the task t of n: its questions, and where they pass its fields into the arrays.
@@ -250,39 +260,102 @@ fn read_tasks(
 
 // Question 9 over the counts: each of the tasks from 1 up has one or two predecessors.
 fn all_preceded(n: usize, counts: &[u8; 1024]) -> bool
-    requires { ⌜ n ≤ 1024 ⌝ }
+    requires { ⌜ (1 ≤ n) × (n ≤ 1024) ⌝ }
     ensures { λ r. ⌜ r ≡ every (one-or-two (now (counts .entry))) (drop 1 (below n)) ⌝ }
 {
+    let mut all = true;
     let mut t = 1;
     while t < n {
-        if counts[t] < 1 {
-            return false;
-        }
-        if counts[t] > 2 {
-            return false;
-        }
+        all = all & (counts[t] >= 1) & (counts[t] <= 2);
         t += 1;
     }
-    true
+    all
 }
 
 // Question 10 over the first successors: each task but the last has one.
 fn one_exit(n: usize, first: &[u16; 1024]) -> bool
-    requires { ⌜ n ≤ 1024 ⌝ }
+    requires { ⌜ (1 ≤ n) × (n ≤ 1024) ⌝ }
     ensures { λ r. ⌜ r ≡ every (followed (now (first .entry))) (below (n - 1)) ⌝ }
 {
+    let mut all = true;
     let mut t = 0;
     while t + 1 < n {
-        if first[t] == 0 {
-            return false;
-        }
+        all = all & (first[t] != 0);
         t += 1;
     }
-    true
+    all
+}
+
+// No plan: zeros stand beside the answer.
+fn refusal(answer: PlanAnswer) -> Heading
+    ensures { λ r. ⌜ r ≡ no-heading answer ⌝ }
+{
+    Heading {
+        answer,
+        responsiveness: 0,
+        utilization: 0,
+        quantum_length: 0,
+        tasks: 0,
+    }
+}
+
+// The tasks and then the graph, after an accepted header.
+fn read_graph(
+    bytes: &[u8],
+    h: Header,
+    first: &mut [u16; 1024],
+    second: &mut [u16; 1024],
+    predecessors: &mut [u8; 1024],
+) -> Heading
+    requires { ⌜ HeaderRead (now bytes) h ⌝ }
+    ensures { λ r. ⌜ RightHeading (now (bytes .entry)) r (now (first .exit)) (now (second .exit)) (now (predecessors .exit)) ⌝ }
+{
+    let n = h.tasks;
+    *first = [0u16; 1024];
+    *second = [0u16; 1024];
+    *predecessors = [0u8; 1024];
+    let answer = read_tasks(bytes, n, first, second, predecessors);
+    if !passed(answer) {
+        return refusal(answer);
+    }
+    if !all_preceded(n, predecessors) {
+        return refusal(PlanAnswer::BadPredecessors);
+    }
+    if !one_exit(n, first) {
+        return refusal(PlanAnswer::LooseEnd);
+    }
+    predecessors[0] = 0;
+    Heading {
+        answer: PlanAnswer::Accepted,
+        responsiveness: h.responsiveness as u8,
+        utilization: h.utilization as u8,
+        quantum_length: h.quantum as u16,
+        tasks: n as u16,
+    }
+}
+
+// The plan of any bytes, its graph into lent arrays, or the number of the first "no". On a refusal the arrays have no meaning.
+pub fn read_into(
+    bytes: &[u8],
+    first: &mut [u16; 1024],
+    second: &mut [u16; 1024],
+    predecessors: &mut [u8; 1024],
+) -> Heading
+    ensures { λ r. ⌜ RightHeading (now (bytes .entry)) r (now (first .exit)) (now (second .exit)) (now (predecessors .exit)) ⌝ }
+{
+    if bytes.len() < 5 {
+        return refusal(PlanAnswer::Short);
+    }
+    let h = header_of(bytes[0], bytes[1], bytes[2], bytes[3], bytes[4]);
+    let answer = header_answer(h, bytes.len());
+    if !passed(answer) {
+        return refusal(answer);
+    }
+    read_graph(bytes, h, first, second, predecessors)
 }
 
 // No plan: the blank stands beside the answer.
-fn refusal(answer: PlanAnswer) -> Reading
+fn no_reading(answer: PlanAnswer) -> Reading
     ensures { λ r. ⌜ (r .answer ≡ answer) × (r .plan ≡ blank) ⌝ }
 {
     Reading {
@@ -299,50 +372,28 @@ fn refusal(answer: PlanAnswer) -> Reading
     }
 }
 
-// The tasks and then the graph, after an accepted header.
-fn read_graph(bytes: &[u8], h: Header) -> Reading
-    requires { ⌜ HeaderRead (now bytes) h ⌝ }
+// The plan of any bytes by value, or the number of the first "no".
+pub fn read(bytes: &[u8]) -> Reading
     ensures { λ r. ⌜ RightReading (now (bytes .entry)) r ⌝ }
 {
-    let n = h.tasks;
     let mut first = [0u16; 1024];
     let mut second = [0u16; 1024];
     let mut predecessors = [0u8; 1024];
-    let answer = read_tasks(bytes, n, &mut first, &mut second, &mut predecessors);
+    let heading = read_into(bytes, &mut first, &mut second, &mut predecessors);
+    let answer = heading.answer;
     if !passed(answer) {
-        return refusal(answer);
-    }
-    if !all_preceded(n, &predecessors) {
-        return refusal(PlanAnswer::BadPredecessors);
-    }
-    if !one_exit(n, &first) {
-        return refusal(PlanAnswer::LooseEnd);
+        return no_reading(answer);
     }
     Reading {
-        answer: PlanAnswer::Accepted,
+        answer,
         plan: PlanRecord {
-            responsiveness: h.responsiveness as u8,
-            utilization: h.utilization as u8,
-            quantum_length: h.quantum as u16,
-            tasks: n as u16,
+            responsiveness: heading.responsiveness,
+            utilization: heading.utilization,
+            quantum_length: heading.quantum_length,
+            tasks: heading.tasks,
             first,
             second,
             predecessors,
         },
     }
-}
-
-// The plan of any bytes, or the number of the first "no".
-pub fn read(bytes: &[u8]) -> Reading
-    ensures { λ r. ⌜ RightReading (now (bytes .entry)) r ⌝ }
-{
-    if bytes.len() < 5 {
-        return refusal(PlanAnswer::Short);
-    }
-    let h = header_of(bytes[0], bytes[1], bytes[2], bytes[3], bytes[4]);
-    let answer = header_answer(h, bytes.len());
-    if !passed(answer) {
-        return refusal(answer);
-    }
-    read_graph(bytes, h)
 }

@@ -2,12 +2,13 @@
 -- Assumes nothing.
 use borrow.Author.Needs.{needs}
 use borrow.Author.Tests.{not-true, not-false}
+use mathlib.Core.Path.{_∙_}
 use Rattle.exports.proofs.Accepting.{not-accepted, accepted-into}
 use Rattle.exports.proofs.jirvaldo_core_accept.Statement.{statement}
 use Rattle.exports.proofs.jirvaldo_core_accept.Tie as tie
 
-accept-requires : tie.Need-accept-requires
-accept-requires c κs = search needs
+read-into-requires : tie.Need-read-into-requires
+read-into-requires c κs = search needs
 
 passed-requires : tie.Need-passed-requires
 passed-requires c κs = search needs
@@ -18,18 +19,34 @@ number-requires c κs = search needs
 returns : tie.Need-returns
 returns c =
     let asked = c .before .before in
-    not-accepted (asked .before .accept .ensures) (asked .passed .ensures) (not-true _ (c .before .if1 .taken)) (c .number .ensures)
+    not-accepted (asked .before .read-into .ensures) (asked .passed .ensures) (not-true _ (c .before .if1 .taken)) (c .number .ensures)
+
+no-numbers-requires : tie.Need-no-numbers-requires
+no-numbers-requires c κs = search needs
+
+fresh-course-requires : tie.Need-fresh-course-requires
+fresh-course-requires c κs = search needs
 
 store-requires : tie.Need-store-requires
 store-requires c κs = search needs
 
 returns-2 : tie.Need-returns-2
 returns-2 c =
-    let other = c .before .before .before .before .before .before .before .before in
+    let course = c .before .before in
+    let other = course .before .before .before .before in
     let asked = other .before in
-    accepted-into (asked .before .accept .ensures) (asked .passed .ensures) _ (not-false _ (other .if1 .left)) (c .store .ensures .0) (c .store .ensures .1)
+    accepted-into (asked .before .read-into .ensures) (asked .passed .ensures) _ (not-false _ (other .if1 .left))
+    (c .store .ensures .0 ∙ course .before .no-numbers .ensures) (c .store .ensures .1 ∙ course .fresh-course .ensures)
 
 pub jirvaldo-core-accept-spec : {M : Type 1} → statement M
 jirvaldo-core-accept-spec =
     tie.close
-    (tie.spec accept-requires passed-requires number-requires returns store-requires returns-2)
+    (tie.spec
+    read-into-requires
+    passed-requires
+    number-requires
+    returns
+    no-numbers-requires
+    fresh-course-requires
+    store-requires
+    returns-2)

@@ -10,9 +10,12 @@ use Rattle.job.proofs.fresh.Lts as lts
 no-numbers-requires : tie.Need-no-numbers-requires
 no-numbers-requires c κs = search needs
 
+fresh-course-requires : tie.Need-fresh-course-requires
+fresh-course-requires c κs = search needs
+
 returns : tie.Need-returns
 unfolding fresh-job
-returns c = rw (c .no-numbers .ensures)
+returns c = rw (c .before .no-numbers .ensures, c .fresh-course .ensures)
 
 pub fresh-spec : {M : Type 1} → statement M
-fresh-spec = tie.close (tie.spec no-numbers-requires returns)
+fresh-spec = tie.close (tie.spec no-numbers-requires fresh-course-requires returns)
