@@ -2,12 +2,12 @@
 // definitions are model's specs/Counters.antt.
 ghost use mathlib.Core.Path.{_≡_};
 ghost use mathlib.Core.List.{_++_, _∷_, []};
-ghost use Prim.Native.Nat.{_+_, _%_, _≤_, _<_};
+ghost use Prim.Native.Nat.{_+_, _≤_, _<_};
 ghost use lib.ListN.{length};
 ghost use Rattle.model.specs.Questions.{by-answer};
 ghost use Rattle.model.specs.Counters.{decimal, spaced, counters-answer, put-at-start};
 ghost use Rattle.counters.specs.Line.{numbers-of, line-answer, line-length};
-ghost use Rattle.counters.specs.Put.{put, put-if-room, next-if-room};
+ghost use Rattle.counters.specs.Put.{pair, put, put-if-room, next-if-room};
 use status::Status;
 
 // The ten numbers of a counters line. The types' widths alone keep the line to 127 bytes.
@@ -37,23 +37,37 @@ fn count_digits(n: u64) -> usize
     ensures { λ r. ⌜ r ≡ length (decimal n) ⌝ }
 {
     let mut rest = n;
-    let mut count: usize = 1;
-    while 10 <= rest {
-        rest = rest / 10;
-        count += 1;
+    let mut count: usize = 0;
+    while 10000 <= rest {
+        rest = rest / 10000;
+        count += 4;
     }
-    count
+    if rest < 10 {
+        return count + 1;
+    }
+    if rest < 100 {
+        return count + 2;
+    }
+    if rest < 1000 {
+        return count + 3;
+    }
+    count + 4
 }
 
-// The last decimal digit of n, as a byte.
-fn last_digit(n: u64) -> u8
-    ensures { λ r. ⌜ r ≡ 48 + n % 10 ⌝ }
+// Puts the two digits of a number below 100 at `at`. They are made in one number, the tens in its lower byte, so that one store is enough.
+fn put_pair(buffer: &mut [u8], at: usize, n: u64)
+    requires { ⌜ n < 100 ⌝ }
+    requires { ⌜ at + 2 ≤ length (now buffer) ⌝ }
+    ensures { λ _. ⌜ now (buffer .exit) ≡ put at (pair n) (now (buffer .entry)) ⌝ }
 {
-    let digit = n % 10;
-    48 + digit as u8
+    let tens = n * 103 / 1024;
+    let both = 12336 + 256 * n - 2559 * tens;
+    let next = at + 1;
+    buffer[at] = (both % 256) as u8;
+    buffer[next] = (both / 256) as u8;
 }
 
-// Puts n's digits, of which there are `count`, at `at`, the last one first.
+// Puts n's digits, of which there are `count`, at `at`, the last two first.
 fn put_digits(buffer: &mut [u8], at: usize, count: usize, n: u64)
     requires { ⌜ count ≡ length (decimal n) ⌝ }
     requires { ⌜ at + count ≤ length (now buffer) ⌝ }
@@ -61,12 +75,16 @@ fn put_digits(buffer: &mut [u8], at: usize, count: usize, n: u64)
 {
     let mut left = count;
     let mut rest = n;
-    while 0 < left {
-        left -= 1;
-        let place = at + left;
-        buffer[place] = last_digit(rest);
-        rest = rest / 10;
+    while 100 <= rest {
+        left -= 2;
+        put_pair(buffer, at + left, rest % 100);
+        rest = rest / 100;
     }
+    if rest < 10 {
+        buffer[at] = 48 + rest as u8;
+        return;
+    }
+    put_pair(buffer, at, rest);
 }
 
 // Puts n's decimal digits at `at`, and answers the place after them. Where they do not fit nothing changes, and the answer is `at`.
@@ -91,7 +109,21 @@ fn put_field(buffer: &mut [u8], at: usize, n: u64, end: u8) -> usize
     ensures { λ r. ⌜ r ≡ at + length (decimal n ++ (end ∷ [])) ⌝ }
     ensures { λ _. ⌜ now (buffer .exit) ≡ put at (decimal n ++ (end ∷ [])) (now (buffer .entry)) ⌝ }
 {
-    let next = put_decimal(buffer, at, n);
+    if n < 10 {
+        buffer[at] = 48 + n as u8;
+        let next = at + 1;
+        buffer[next] = end;
+        return next + 1;
+    }
+    if n < 100 {
+        put_pair(buffer, at, n);
+        let next = at + 2;
+        buffer[next] = end;
+        return next + 1;
+    }
+    let count = count_digits(n);
+    put_digits(buffer, at, count, n);
+    let next = at + count;
     buffer[next] = end;
     next + 1
 }
