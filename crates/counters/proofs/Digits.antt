@@ -12,27 +12,24 @@ use Rattle.counters.specs.Put.{pair, put}
 use Rattle.counters.proofs.Decimal.{one-digit, one-long, two-digits, two-long, last-two, two-more}
 use Rattle.counters.proofs.Put.{length-put, put-before, put-one, put-two}
 
--- the tens of a number below 100, and the number of two bytes that has both digits
-tens-of : (n : ℕ) → n < 100 → n * 103 / 1024 ≡ n / 10
-tens-of n h = omega arith
+-- two digits of a number below 100, made in one number of two bytes, and stored
+abbrev pub both-of : ℕ → ℕ → ℕ
+both-of n tens = 12336 + 256 * n - 2559 * tens
 
-abbrev pub both-of : ℕ → ℕ
-both-of n = 12336 + 256 * n - 2559 * (n * 103 / 1024)
+module _ (n tens : ℕ) (h : n < 100) (tenth : tens ≡ n / 10) where
+  both-split : (both-of n tens % 256 ≡ 48 + n / 10) × (both-of n tens / 256 ≡ 48 + n % 10)
+  both-split =
+      let high = 48 + n % 10 in
+      let low = 48 + n / 10 in
+      let sum : both-of n tens ≡ 256 * high + low = omega arith in (
+        rw sum (mul-add-mod-self-left 256 high low ∙ omega arith),
+        rw sum (mul-add-div (lit< tt) high low ∙ omega arith),
+      )
 
-pub both-split : (n : ℕ) → n < 100 → (both-of n % 256 ≡ 48 + n / 10) × (both-of n / 256 ≡ 48 + n % 10)
-both-split n h =
-    let ones = 48 + n % 10 in
-    let tens = 48 + n / 10 in
-    let sum : both-of n ≡ 256 * ones + tens = omega (arith, tens-of n h) in (
-      rw sum (mul-add-mod-self-left 256 ones tens ∙ omega arith),
-      rw sum (mul-add-div (lit< tt) ones tens ∙ omega arith),
-    )
-
-pub pair-stored : (at n : ℕ) (b : List ℕ) → n < 100 → at + 2 ≤ length b
-    → set (set b at (both-of n % 256)) (at + 1) (both-of n / 256) ≡ put at (pair n) b
-pair-stored at n b h room =
-    let split = both-split n h in
-    rw (split .0, split .1) (put-two at (48 + n / 10) (48 + n % 10) b room)
+  pub pair-stored : (at : ℕ) (b : List ℕ) → at + 2 ≤ length b
+      → set (set b at (both-of n tens % 256)) (at + 1) (both-of n tens / 256) ≡ put at (pair n) b
+  pair-stored at b room =
+      rw (both-split .0, both-split .1) (put-two at (48 + n / 10) (48 + n % 10) b room)
 
 -- on the way: with the first `left` digits put too, which are those of `rest`, the buffer is what it is to be
 pub record Spelling (start : List ℕ) (at n : ℕ) (buffer : List ℕ) (left rest : ℕ) : Type 0 where

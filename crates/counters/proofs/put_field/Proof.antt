@@ -3,7 +3,7 @@ use mathlib.Core.Path.{sym, ap, _∙_}
 use mathlib.Core.List.{List}
 use Prim.Native.Nat.{ℕ, _+_, _<_}
 use native.Mathlib.Omega.{arith}
-use lib.ListN.{length, set}
+use lib.ListN.{length, set, length-set}
 use borrow.Author.Needs.{needs}
 use Rattle.model.specs.Counters.{decimal}
 use Rattle.counters.specs.Put.{put}
@@ -64,7 +64,7 @@ add-next : tie.Need-add-next
 add-next c = search needs
 
 slice-write-buffer-2 : tie.Need-slice-write-buffer-2
-slice-write-buffer-2 c = one c .inside
+slice-write-buffer-2 c = rw length-set (one-inside c)
 
 add-result : tie.Need-add-result
 add-result c = search needs

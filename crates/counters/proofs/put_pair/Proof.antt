@@ -40,7 +40,7 @@ same-length : tie.Need-same-length
 same-length c = search needs
 
 returns : tie.Need-returns
-returns c = pair-stored (c .args .at) (c .args .n) (c .args .buffer .now) (c .pre .0) (c .pre .1)
+returns c = pair-stored _ _ (c .pre .0) (omega arith) _ _ (c .pre .1)
 
 pub put-pair-spec : {M : Type 1} → statement M
 put-pair-spec =

@@ -37,10 +37,10 @@ loop-less c = omega arith
 loop-again : tie.Need-loop-again Inv-loop μ-loop
 loop-again c =
     let at-loop = c .before .before .before in
-    block-more _ _ (at-loop .before .before .pre) (at-loop .loop .inv) (c .before .before .loop-test .taken) _ (c .is-end .ensures)
+    block-more _ _ (at-loop .before .before .pre) (at-loop .loop .inv) (omega arith) _ (c .is-end .ensures)
 
 returns : tie.Need-returns Inv-loop μ-loop
-returns c = block-last _ _ (c .before .before .before .pre) (c .before .loop .inv) (c .loop-test .left)
+returns c = block-last _ _ (c .before .before .before .pre) (c .before .loop .inv) (omega arith)
 
 pub ends-in-block-spec : {M : Type 1} → statement M
 ends-in-block-spec =

@@ -31,7 +31,7 @@ returns c =
     let sought = c .before .before .loop .inv .0 in
     let inside = c .before .loop-test .taken in
     let ten = c .before .before .loop .inv .1 inside in
-    (here-answer sought inside ten (c .if1 .taken), here sought inside ten (c .if1 .taken))
+    (here-answer sought inside ten (omega arith), here sought inside ten (omega arith))
 
 sub-left : tie.Need-sub-left Inv-loop μ-loop
 sub-left c = omega arith

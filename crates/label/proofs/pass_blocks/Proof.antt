@@ -33,7 +33,7 @@ loop-less : tie.Need-loop-less Inv-loop μ-loop
 loop-less c = omega arith
 
 loop-again : tie.Need-loop-again Inv-loop μ-loop
-loop-again c = passed-both (c .before .before .before .loop .inv) (c .before .ends-in-block .ensures (c .if1 .left))
+loop-again c = passed-both (c .before .before .before .loop .inv) (c .before .ends-in-block .ensures (omega arith))
 
 returns-2 : tie.Need-returns-2 Inv-loop μ-loop
 returns-2 c = c .before .loop .inv
