@@ -1,7 +1,7 @@
 -- Digits put into a buffer two at a time, from the last to the first: how two are made, and what holds on the way.
 -- Assumes nothing.
 use mathlib.Core.Path.{_≡_, refl, sym, ap, _∙_}
-use mathlib.Core.List.{List, [], _∷_, _++_}
+use mathlib.Core.List.{List}
 use Prim.Native.Nat.{ℕ, _+_, _-_, _*_, _/_, _%_, _≤_, _<_}
 use native.Mathlib.Nat.{mul-add-mod-self-left, mul-add-div}
 use native.Mathlib.Omega.{arith}

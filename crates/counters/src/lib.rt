@@ -54,7 +54,8 @@ fn count_digits(n: u64) -> usize
     count + 4
 }
 
-// Puts the two digits of a number below 100 at `at`. They are made in one number, the tens in its lower byte, so that one store is enough.
+// Puts the two digits of a number below 100 at `at`. `both` is (48 + tens) + 256 * (48 + ones), where ones is n - 10 * tens: from one
+// number the two bytes are one store.
 fn put_pair(buffer: &mut [u8], at: usize, n: u64)
     requires { ⌜ n < 100 ⌝ }
     requires { ⌜ at + 2 ≤ length (now buffer) ⌝ }

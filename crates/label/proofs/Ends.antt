@@ -37,8 +37,17 @@ module _ {sheet : List ℕ} where
             subst (λ (n : ℕ). getD sheet n 0 ≡ 10 → ⊥) here other;
       }
 
-  pub passed-more : {from i : ℕ} → Passed sheet from i → i < length sheet → (getD sheet i 0 ≡ 10 → ⊥) → Passed sheet from (i + 1)
+  pub passed-more : {from i : ℕ} → Passed sheet from i → i < length sheet → (getD sheet i 0 ≡ 10 → ⊥)
+      → Passed sheet from (i + 1)
   passed-more p inside other = passed-both p (one-byte _ inside other)
+
+  pub passed-two : {from i : ℕ} → Passed sheet from i → i + 1 < length sheet → (getD sheet i 0 ≡ 10 → ⊥) → (getD sheet (i + 1) 0 ≡ 10 → ⊥)
+      → Passed sheet from (i + 1 + 1)
+  passed-two p inside first second = passed-more (passed-more p (omega arith) first) inside second
+
+  pub passed-three : {from i : ℕ} → Passed sheet from i → i + 1 + 1 < length sheet → (getD sheet i 0 ≡ 10 → ⊥)
+      → (getD sheet (i + 1) 0 ≡ 10 → ⊥) → (getD sheet (i + 1 + 1) 0 ≡ 10 → ⊥) → Passed sheet from (i + 1 + 1 + 1)
+  passed-three p inside first second third = passed-more (passed-two p (omega arith) first second) inside third
 
   -- where a stretch without byte 10 ends in one, and where it ends the sheet
   pub end-here : {from i : ℕ} → Passed sheet from i → getD sheet i 0 ≡ 10 → LineEnd sheet from i

@@ -122,7 +122,8 @@ past-stretch {sheet} (suc n) i j e p s =
     record { forward = omega arith; within = p .within; clear = λ k least most. p .clear k (omega arith) most } in
     past-stretch n (i + 1) j (omega arith) rest (past-byte s inside (p .clear i (omega arith) (omega arith)))
 
-pub past-bytes : {sheet : List ℕ} {status left start i j : ℕ} → Sought sheet status left start i → Passed sheet i j → Sought sheet status left start j
+pub past-bytes : {sheet : List ℕ} {status left start i j : ℕ} → Sought sheet status left start i → Passed sheet i j
+    → Sought sheet status left start j
 past-bytes {i = i} {j = j} s p = past-stretch (j - i) i j (omega (arith, p .forward)) p s
 
 -- where the line of a number ends; the empty part, where there is none, ends at 0

@@ -3,7 +3,6 @@
 use mathlib.Core.Path.{_∙_}
 use native.Mathlib.Omega.{arith}
 use lib.ListN.{length-set}
-use borrow.Author.Needs.{needs}
 use Rattle.counters.proofs.Digits.{Spelling, spelling-first, two-left, spelling-step, spelling-one, spelling-two}
 use Rattle.counters.proofs.put_digits.Statement.{statement}
 use Rattle.counters.proofs.put_digits.Tie as tie
@@ -24,7 +23,9 @@ add-put-pair : tie.Need-add-put-pair Inv-loop μ-loop
 add-put-pair c = omega arith
 
 put-pair-requires : tie.Need-put-pair-requires Inv-loop μ-loop
-put-pair-requires c κs = (omega arith, omega (arith, c .before .before .loop .inv .within, two-left _ _ _ _ _ _ (c .before .before .loop .inv) (c .before .loop-test .taken)))
+put-pair-requires c κs =
+    let s = c .before .before .loop .inv in
+    (omega arith, omega (arith, s .within, two-left _ _ _ _ _ _ s (c .before .loop-test .taken)))
 
 loop-less : tie.Need-loop-less Inv-loop μ-loop
 loop-less c = omega arith

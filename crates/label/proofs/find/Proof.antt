@@ -50,7 +50,8 @@ loop-again c =
     let at-loop = c .before .before .before in
     let inside = c .before .before .loop-test .taken in
     let found = c .line-end2 .ensures in
-    (past-bytes (past-line (at-loop .loop .inv .0) inside (at-loop .loop .inv .1 inside) (c .before .if1 .left)) (found .passed), found .ended)
+    let next = past-line (at-loop .loop .inv .0) inside (at-loop .loop .inv .1 inside) (c .before .if1 .left) in
+    (past-bytes next (found .passed), found .ended)
 
 returns-2 : tie.Need-returns-2 Inv-loop μ-loop
 returns-2 c = (missing-answer (c .before .loop .inv .0) (c .loop-test .left), missing (c .before .loop .inv .0) (c .loop-test .left))

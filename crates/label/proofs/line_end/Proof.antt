@@ -4,7 +4,7 @@ use Prim.Native.Nat.{_-_}
 use native.Mathlib.Omega.{arith}
 use lib.ListN.{length}
 use Rattle.label.specs.Ends.{Passed}
-use Rattle.label.proofs.Ends.{passed-more, end-here, end-after}
+use Rattle.label.proofs.Ends.{passed-more, passed-two, passed-three, end-here, end-after}
 use Rattle.label.proofs.line_end.Statement.{statement}
 use Rattle.label.proofs.line_end.Tie as tie
 
@@ -48,8 +48,8 @@ shared-slice-read-if3 c = omega arith
 
 returns-3 : tie.Need-returns-3 Inv-loop μ-loop
 returns-3 c =
-    let one = passed-more (c .before .before .before .before .before .before .before .loop .inv) (omega arith) (c .before .before .before .before .if1 .left) in
-    let two = passed-more one (omega arith) (c .before .before .if2 .left) in
+    let s = c .before .before .before .before .before .before .before .loop .inv in
+    let two = passed-two s (omega arith) (c .before .before .before .before .if1 .left) (c .before .before .if2 .left) in
     end-here two (c .if3 .taken)
 
 add-fourth : tie.Need-add-fourth Inv-loop μ-loop
@@ -60,9 +60,9 @@ shared-slice-read-if4 c = omega arith
 
 returns-4 : tie.Need-returns-4 Inv-loop μ-loop
 returns-4 c =
-    let one = passed-more (c .before .before .before .before .before .before .before .before .before .loop .inv) (omega arith) (c .before .before .before .before .before .before .if1 .left) in
-    let two = passed-more one (omega arith) (c .before .before .before .before .if2 .left) in
-    let three = passed-more two (omega arith) (c .before .before .if3 .left) in
+    let s = c .before .before .before .before .before .before .before .before .before .loop .inv in
+    let first = c .before .before .before .before .before .before .if1 .left in
+    let three = passed-three s (omega arith) first (c .before .before .before .before .if2 .left) (c .before .before .if3 .left) in
     end-here three (c .if4 .taken)
 
 add-i : tie.Need-add-i Inv-loop μ-loop
@@ -73,9 +73,9 @@ loop-less c = omega arith
 
 loop-again : tie.Need-loop-again Inv-loop μ-loop
 loop-again c =
-    let one = passed-more (c .before .before .before .before .before .before .before .before .before .loop .inv) (omega arith) (c .before .before .before .before .before .before .if1 .left) in
-    let two = passed-more one (omega arith) (c .before .before .before .before .if2 .left) in
-    let three = passed-more two (omega arith) (c .before .before .if3 .left) in
+    let s = c .before .before .before .before .before .before .before .before .before .loop .inv in
+    let first = c .before .before .before .before .before .before .if1 .left in
+    let three = passed-three s (omega arith) first (c .before .before .before .before .if2 .left) (c .before .before .if3 .left) in
     passed-more three (omega arith) (c .if4 .left)
 
 end-by-bytes-requires : tie.Need-end-by-bytes-requires Inv-loop μ-loop
