@@ -1,91 +1,80 @@
--- Digits put into a buffer from the last to the first: what holds on the way, and that the digits of a number's own count are
--- its `decimal`. Assumes nothing.
+-- Digits put into a buffer two at a time, from the last to the first: how two are made, and what holds on the way.
+-- Assumes nothing.
 use mathlib.Core.Path.{_≡_, refl, sym, ap, _∙_}
-use mathlib.Core.List.{List, [], _∷_, _++_}
-use Prim.Native.Nat.{ℕ, zero, suc, _+_, _/_, _%_, _≤_, _<_}
-use native.Mathlib.Nat.{add-zero}
-use native.Mathlib.Numerals.{add-one}
+use mathlib.Core.List.{List}
+use Prim.Native.Nat.{ℕ, _+_, _-_, _*_, _/_, _%_, _≤_, _<_}
+use native.Mathlib.Nat.{mul-add-mod-self-left, mul-add-div}
 use native.Mathlib.Omega.{arith}
-use lib.ListN.{length, take, drop, set, length-append, length-set, take-append-drop}
-use lib.Seq.{drop-cons, take-take, take-set-le, drop-set-lt, getD-set-same, append-snoc}
+use lib.Dec.{lit<}
+use lib.ListN.{length, set}
 use Rattle.model.specs.Counters.{decimal}
-use Rattle.counters.specs.Put.{put}
-use Rattle.counters.proofs.Decimal.{one-digit, one-long, more-digits, more-long, by-size}
+use Rattle.counters.specs.Put.{pair, put}
+use Rattle.counters.proofs.Decimal.{one-digit, one-long, two-digits, two-long, last-two, two-more}
+use Rattle.counters.proofs.Put.{length-put, put-before, put-one, put-two}
 
--- the last `count` digits of n, with zeros in front where n has fewer
-unfoldable pub digits : ℕ → ℕ → List ℕ
-digits zero n = []
-digits (suc count) n = digits count (n / 10) ++ ((48 + n % 10) ∷ [])
+-- two digits of a number below 100, made in one number of two bytes, and stored
+abbrev pub both-of : ℕ → ℕ → ℕ
+both-of n tens = 12336 + 256 * n - 2559 * tens
 
-length-digits : (count n : ℕ) → length (digits count n) ≡ count
-unfolding digits
-length-digits zero n = refl
-length-digits (suc count) n =
-    length-append (digits count (n / 10)) ((48 + n % 10) ∷ []) ∙ ap (λ (k : ℕ). k + 1) (length-digits count (n / 10)) ∙ add-one count
+module _ (n tens : ℕ) (h : n < 100) (tenth : tens ≡ n / 10) where
+  both-split : (both-of n tens % 256 ≡ 48 + n / 10) × (both-of n tens / 256 ≡ 48 + n % 10)
+  both-split =
+      let high = 48 + n % 10 in
+      let low = 48 + n / 10 in
+      let sum : both-of n tens ≡ 256 * high + low = omega arith in (
+        rw sum (mul-add-mod-self-left 256 high low ∙ omega arith),
+        rw sum (mul-add-div (lit< tt) high low ∙ omega arith),
+      )
 
--- as many digits as n has are n's decimal
-one-spelt : (n : ℕ) → n < 10 → digits (length (decimal n)) n ≡ decimal n
-unfolding digits
-one-spelt n small =
-    let same : 48 + n % 10 ≡ 48 + n = omega arith in
-    rw (one-long n small, one-digit n small, same)
+  pub pair-stored : (at : ℕ) (b : List ℕ) → at + 2 ≤ length b
+      → set (set b at (both-of n tens % 256)) (at + 1) (both-of n tens / 256) ≡ put at (pair n) b
+  pair-stored at b room =
+      rw (both-split .0, both-split .1) (put-two at (48 + n / 10) (48 + n % 10) b room)
 
-spelt-up-to : (f n : ℕ) → n ≤ f → digits (length (decimal n)) n ≡ decimal n
-unfolding digits
-spelt-up-to zero n h = one-spelt n (omega arith)
-spelt-up-to (suc f) n h =
-    by-size (λ m. digits (length (decimal m)) m ≡ decimal m) n
-    (one-spelt n)
-    (λ big. rw (more-long n big, add-one, spelt-up-to f (n / 10) (omega arith), more-digits n big))
-
-pub digits-decimal : (n : ℕ) → digits (length (decimal n)) n ≡ decimal n
-digits-decimal n = spelt-up-to n n (omega arith)
-
--- on the way: the first `left` digits are still to be put, and are those of `rest`
-pub record Spelling (start : List ℕ) (at count n : ℕ) (buffer : List ℕ) (left rest : ℕ) : Type 0 where
-  pub within : left ≤ count
+-- on the way: with the first `left` digits put too, which are those of `rest`, the buffer is what it is to be
+pub record Spelling (start : List ℕ) (at n : ℕ) (buffer : List ℕ) (left rest : ℕ) : Type 0 where
+  pub counted : left ≡ length (decimal rest)
+  pub within : at + left ≤ length buffer
   pub same-length : length buffer ≡ length start
-  pub before : take (at + left) buffer ≡ take (at + left) start
-  pub after : digits left rest ++ drop (at + left) buffer ≡ digits count n ++ drop (at + count) start
+  pub spelt : put at (decimal rest) buffer ≡ put at (decimal n) start
 
-pub spelling-first : (start : List ℕ) (at count n : ℕ) → Spelling start at count n start count n
-spelling-first start at count n = record { within = omega arith; same-length = refl; before = refl; after = refl }
+pub spelling-first : (start : List ℕ) (at count n : ℕ) → count ≡ length (decimal n) → at + count ≤ length start
+    → Spelling start at n start count n
+spelling-first start at count n counted room = record { counted = counted; within = room; same-length = refl; spelt = refl }
 
-module _ (start : List ℕ) (at count n : ℕ) (room : at + count ≤ length start) where
-  -- the next digit, in front of those that are there
-  pub spelling-step : (buffer : List ℕ) (left rest j : ℕ) → left ≡ suc j → Spelling start at count n buffer left rest
-      → Spelling start at count n (set buffer (at + j) (48 + rest % 10)) j (rest / 10)
-  unfolding digits
-  spelling-step buffer left rest j e s =
-      let place : at + j < length buffer = omega (arith, s .same-length) in
-      let digit = 48 + rest % 10 in
-      let stored = set buffer (at + j) digit in
-      let inside : at + j < length stored = rw length-set place in
-      let upto : at + suc j ≡ suc (at + j) = omega arith in
-      let here : drop (at + j) stored ≡ digit ∷ drop (suc (at + j)) buffer =
-      drop-cons stored (at + j) 0 inside
-      ∙ rw (getD-set-same buffer (at + j) digit 0 place, drop-set-lt (suc (at + j)) buffer (at + j) digit (omega arith)) in
-      let first : take (at + suc j) buffer ≡ take (at + suc j) start = rw e at (s .before) in
+module _ (start : List ℕ) (at n : ℕ) (buffer : List ℕ) (left rest : ℕ) (s : Spelling start at n buffer left rest) (h : 100 ≤ rest) where
+  pub two-left : 2 ≤ left
+  two-left = omega (arith, s .counted, two-more rest h)
+
+  -- the next two digits, in front of those that are there
+  pub spelling-step : (j : ℕ) → left ≡ j + 2 → Spelling start at n (put (at + j) (pair (rest % 100)) buffer) j (rest / 100)
+  spelling-step j e =
+      let digits : j ≡ length (decimal (rest / 100)) = omega (arith, s .counted, two-more rest h) in
+      let room : at + j + 2 ≤ length buffer = omega (arith, s .within) in
+      let same = length-put (at + j) (pair (rest % 100)) buffer room in
       record {
-        within = omega (arith, s .within);
-        same-length = length-set buffer (at + j) digit ∙ s .same-length;
-        before =
-            take-set-le (at + j) buffer (at + j) digit (omega arith)
-            ∙ sym (take-take (at + j) (at + suc j) buffer (omega arith))
-            ∙ ap (take (at + j)) first
-            ∙ take-take (at + j) (at + suc j) start (omega arith);
-        after =
-            ap (λ (l : List ℕ). digits j (rest / 10) ++ l) here
-            ∙ sym (append-snoc (digits j (rest / 10)) digit (drop (suc (at + j)) buffer))
-            ∙ rw (e, upto) at (s .after);
+        counted = digits;
+        within = omega (arith, same);
+        same-length = same ∙ s .same-length;
+        spelt =
+            rw digits (put-before at (decimal (rest / 100)) (pair (rest % 100)) buffer (rw (← digits) room))
+            ∙ ap (λ (t : List ℕ). put at t buffer) (sym (last-two rest h))
+            ∙ s .spelt;
       }
 
-  -- with no digit left the buffer has them all
-  pub spelling-last : (buffer : List ℕ) (left rest : ℕ) → left ≡ 0 → count ≡ length (decimal n) → Spelling start at count n buffer left rest
-      → buffer ≡ put at (decimal n) start
-  unfolding digits
-  spelling-last buffer left rest e counted s =
-      let front : take at buffer ≡ take at start = rw (e, add-zero) at (s .before) in
-      let back : drop at buffer ≡ decimal n ++ drop (at + length (decimal n)) start =
-      rw (e, add-zero, counted, digits-decimal n) at (s .after) in
-      sym (take-append-drop at buffer) ∙ rw (front, back)
+-- one digit, stored
+pub digit-stored : (at n : ℕ) (b : List ℕ) → n < 10 → at < length b → set b at (48 + n) ≡ put at (decimal n) b
+digit-stored at n b h inside = put-one at (48 + n) b inside ∙ ap (λ (t : List ℕ). put at t b) (sym (one-digit n h))
+
+-- one digit left, or two: with them the buffer has them all
+module _ {start : List ℕ} {at n : ℕ} {buffer : List ℕ} {left rest : ℕ} (s : Spelling start at n buffer left rest) where
+  pub spelling-one : rest < 10 → (at < length buffer) × (set buffer at (48 + rest) ≡ put at (decimal n) start)
+  spelling-one h =
+      let inside : at < length buffer = omega (arith, s .counted, s .within, one-long rest h) in
+      (inside, digit-stored at rest buffer h inside ∙ s .spelt)
+
+  pub spelling-two : 10 ≤ rest → rest < 100 → (at + 2 ≤ length buffer) × (put at (pair rest) buffer ≡ put at (decimal n) start)
+  spelling-two least most = (
+    omega (arith, s .counted, s .within, two-long rest least most),
+    ap (λ (t : List ℕ). put at t buffer) (sym (two-digits rest least most)) ∙ s .spelt,
+  )

@@ -7,7 +7,7 @@ use native.Mathlib.Nat.{zero-add}
 use native.Mathlib.Numerals.{add-one}
 use native.Mathlib.Omega.{arith}
 use lib.ListN.{length, take, drop, set, length-append, length-drop}
-use lib.Seq.{take-at, drop-at, drop-drop, length-take-le, set-split}
+use lib.Seq.{take-at, drop-at, drop-drop, take-take, take-append-le, length-take-le, set-split, sets-eq}
 use borrow.Author.Tests.{le-leb, lt-leb}
 use Rattle.model.specs.Counters.{put-at-start}
 use Rattle.counters.specs.Put.{put, put-if-room, next-if-room}
@@ -42,6 +42,16 @@ module _ (at : ℕ) (x b : List ℕ) (room : at + length x ≤ length b) where
       let places : at + length x + length y ≡ at + length (x ++ y) = omega (arith, length-append x y) in
       rw (take-put, drop-put (length y), places, append-assoc (take at b) x, append-assoc x y)
 
+-- and so is the later piece first
+pub put-before : (at : ℕ) (x y b : List ℕ) → at + length x + length y ≤ length b → put at x (put (at + length x) y b) ≡ put at (x ++ y) b
+put-before at x y b room =
+    let seam = at + length x in
+    let seam-length : length (take seam b) ≡ seam = length-take-le seam b (omega arith) in
+    let first : take at (put seam y b) ≡ take at b = take-append-le at (take seam b) _ (omega arith) ∙ take-take at seam b (omega arith) in
+    let second : drop seam (put seam y b) ≡ y ++ drop (seam + length y) b = drop-at (take seam b) _ seam seam-length in
+    let places : at + length (x ++ y) ≡ seam + length y = omega (arith, length-append x y) in
+    rw (first, second, places, append-assoc x y)
+
 -- at the start of a buffer
 pub put-start : (x b : List ℕ) → put 0 x b ≡ put-at-start x b
 put-start x b = ap (λ (n : ℕ). x ++ drop n b) (zero-add (length x))
@@ -49,6 +59,9 @@ put-start x b = ap (λ (n : ℕ). x ++ drop n b) (zero-add (length x))
 -- a stored byte is a piece
 pub put-one : (at v : ℕ) (b : List ℕ) → at < length b → set b at v ≡ put at (v ∷ []) b
 put-one at v b h = set-split b at v h ∙ ap (λ (n : ℕ). take at b ++ (v ∷ drop n b)) (sym (add-one at))
+
+pub put-two : (at v w : ℕ) (b : List ℕ) → at + 2 ≤ length b → set (set b at v) (at + 1) w ≡ put at (v ∷ w ∷ []) b
+put-two at v w b h = rw add-one (sets-eq (v ∷ w ∷ []) b at h ∙ append-assoc (take at b) (v ∷ w ∷ []) (drop (at + 2) b))
 
 -- what the two cases of room say
 module _ (at : ℕ) (x b : List ℕ) where
@@ -62,20 +75,21 @@ module _ (at : ℕ) (x b : List ℕ) where
       let too-long = lt-leb (at + length x) (length b) h in
       (rw too-long, rw too-long)
 
--- a piece that was put where there is room, with one byte stored after it
+-- where there is room for a piece and one byte after it
+pub piece-room : (at : ℕ) (x : List ℕ) (end : ℕ) (b : List ℕ) → at + length (x ++ (end ∷ [])) ≤ length b → at + length x < length b
+piece-room at x end b room = omega (arith, length-append x (end ∷ []))
+
+-- a piece, with one byte stored after it
 pub record Ended (at : ℕ) (x : List ℕ) (end : ℕ) (b b' : List ℕ) (next : ℕ) : Type 0 where
   pub inside : next < length b'
   pub after : next + 1 ≡ at + length (x ++ (end ∷ []))
   pub bytes : set b' next end ≡ put at (x ++ (end ∷ [])) b
 
 pub ended : (at : ℕ) (x : List ℕ) (end : ℕ) (b b' : List ℕ) (next : ℕ) → at + length (x ++ (end ∷ [])) ≤ length b
-    → next ≡ next-if-room at x b → b' ≡ put-if-room at x b → Ended at x end b b' next
-ended at x end b b' next room next-is b'-is =
-    let both : at + length x + 1 ≤ length b = omega (arith, length-append x (end ∷ [])) in
-    let space : at + length x ≤ length b = omega arith in
-    let place : next ≡ at + length x = next-is ∙ sym (has-room at x b space .0) in
-    let first : b' ≡ put at x b = b'-is ∙ sym (has-room at x b space .1) in
-    let within : at + length x < length (put at x b) = omega (arith, length-put at x b space) in
+    → next ≡ at + length x → b' ≡ put at x b → Ended at x end b b' next
+ended at x end b b' next room place first =
+    let space : at + length x ≤ length b = omega (arith, piece-room at x end b room) in
+    let within : at + length x < length (put at x b) = omega (arith, piece-room at x end b room, length-put at x b space) in
     record {
       inside = rw (first, place) within;
       after = omega (arith, length-append x (end ∷ []));

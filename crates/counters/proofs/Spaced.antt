@@ -2,7 +2,7 @@
 -- Assumes nothing.
 use mathlib.Core.Path.{_≡_, refl, sym, ap, _∙_}
 use mathlib.Core.List.{List, [], _∷_, _++_, append-assoc}
-use Prim.Native.Nat.{ℕ, suc, _+_, _-_, _^_, _≤_, _<_}
+use Prim.Native.Nat.{ℕ, suc, _+_, _^_, _≤_, _<_}
 use native.Mathlib.Numerals.{add-one}
 use native.Mathlib.Omega.{arith}
 use lib.ListN.{length, getD, drop, length-append, drop-of-length-le}
@@ -65,12 +65,6 @@ module _ (start ns : List ℕ) (room : length (spaced ns) ≤ length start) (buf
             ∙ ap (λ (t : List ℕ). put at t buffer) (sym (spaced-more ns i h))
             ∙ l .rest;
       }
-
-  -- once the numbers before the last are put, what is left is the last
-  pub lined-until : length ns - 1 ≤ i → Lined start ns buffer at (length ns - 1)
-  lined-until h =
-      let e : length ns - 1 ≡ i = omega (arith, l .within) in
-      rw e l
 
   pub lined-size : i + 1 ≡ length ns → at + length (text 10) ≡ length (spaced ns)
   lined-size h = ap (λ (t : List ℕ). at + length t) (sym (spaced-last ns i h)) ∙ l .size

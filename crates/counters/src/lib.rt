@@ -2,12 +2,12 @@
 // definitions are model's specs/Counters.antt.
 ghost use mathlib.Core.Path.{_≡_};
 ghost use mathlib.Core.List.{_++_, _∷_, []};
-ghost use Prim.Native.Nat.{_+_, _%_, _≤_, _<_};
+ghost use Prim.Native.Nat.{_+_, _≤_, _<_};
 ghost use lib.ListN.{length};
 ghost use Rattle.model.specs.Questions.{by-answer};
 ghost use Rattle.model.specs.Counters.{decimal, spaced, counters-answer, put-at-start};
 ghost use Rattle.counters.specs.Line.{numbers-of, line-answer, line-length};
-ghost use Rattle.counters.specs.Put.{put, put-if-room, next-if-room};
+ghost use Rattle.counters.specs.Put.{pair, put, put-if-room, next-if-room};
 use status::Status;
 
 // The ten numbers of a counters line. The types' widths alone keep the line to 127 bytes.
@@ -37,23 +37,38 @@ fn count_digits(n: u64) -> usize
     ensures { λ r. ⌜ r ≡ length (decimal n) ⌝ }
 {
     let mut rest = n;
-    let mut count: usize = 1;
-    while 10 <= rest {
-        rest = rest / 10;
-        count += 1;
+    let mut count: usize = 0;
+    while 10000 <= rest {
+        rest = rest / 10000;
+        count += 4;
     }
-    count
+    if rest < 10 {
+        return count + 1;
+    }
+    if rest < 100 {
+        return count + 2;
+    }
+    if rest < 1000 {
+        return count + 3;
+    }
+    count + 4
 }
 
-// The last decimal digit of n, as a byte.
-fn last_digit(n: u64) -> u8
-    ensures { λ r. ⌜ r ≡ 48 + n % 10 ⌝ }
+// Puts the two digits of a number below 100 at `at`. `both` is (48 + tens) + 256 * (48 + ones), where ones is n - 10 * tens: from one
+// number the two bytes are one store.
+fn put_pair(buffer: &mut [u8], at: usize, n: u64)
+    requires { ⌜ n < 100 ⌝ }
+    requires { ⌜ at + 2 ≤ length (now buffer) ⌝ }
+    ensures { λ _. ⌜ now (buffer .exit) ≡ put at (pair n) (now (buffer .entry)) ⌝ }
 {
-    let digit = n % 10;
-    48 + digit as u8
+    let tens = n * 103 / 1024;
+    let both = 12336 + 256 * n - 2559 * tens;
+    let next = at + 1;
+    buffer[at] = (both % 256) as u8;
+    buffer[next] = (both / 256) as u8;
 }
 
-// Puts n's digits, of which there are `count`, at `at`, the last one first.
+// Puts n's digits, of which there are `count`, at `at`, the last two first.
 fn put_digits(buffer: &mut [u8], at: usize, count: usize, n: u64)
     requires { ⌜ count ≡ length (decimal n) ⌝ }
     requires { ⌜ at + count ≤ length (now buffer) ⌝ }
@@ -61,12 +76,16 @@ fn put_digits(buffer: &mut [u8], at: usize, count: usize, n: u64)
 {
     let mut left = count;
     let mut rest = n;
-    while 0 < left {
-        left -= 1;
-        let place = at + left;
-        buffer[place] = last_digit(rest);
-        rest = rest / 10;
+    while 100 <= rest {
+        left -= 2;
+        put_pair(buffer, at + left, rest % 100);
+        rest = rest / 100;
     }
+    if rest < 10 {
+        buffer[at] = 48 + rest as u8;
+        return;
+    }
+    put_pair(buffer, at, rest);
 }
 
 // Puts n's decimal digits at `at`, and answers the place after them. Where they do not fit nothing changes, and the answer is `at`.
@@ -91,26 +110,43 @@ fn put_field(buffer: &mut [u8], at: usize, n: u64, end: u8) -> usize
     ensures { λ r. ⌜ r ≡ at + length (decimal n ++ (end ∷ [])) ⌝ }
     ensures { λ _. ⌜ now (buffer .exit) ≡ put at (decimal n ++ (end ∷ [])) (now (buffer .entry)) ⌝ }
 {
-    let next = put_decimal(buffer, at, n);
+    if n < 10 {
+        buffer[at] = 48 + n as u8;
+        let next = at + 1;
+        buffer[next] = end;
+        return next + 1;
+    }
+    if n < 100 {
+        put_pair(buffer, at, n);
+        let next = at + 2;
+        buffer[next] = end;
+        return next + 1;
+    }
+    let count = count_digits(n);
+    put_digits(buffer, at, count, n);
+    let next = at + count;
     buffer[next] = end;
     next + 1
 }
 
-// Puts the numbers at the buffer's start, one space between and byte 10 after, and answers how many bytes that takes.
-fn put_numbers(numbers: &[u64], buffer: &mut [u8]) -> usize
-    requires { ⌜ 0 < length (now numbers) ⌝ }
-    requires { ⌜ length (spaced (now numbers)) ≤ length (now buffer) ⌝ }
-    ensures { λ r. ⌜ r ≡ length (spaced (now (numbers .entry))) ⌝ }
-    ensures { λ _. ⌜ now (buffer .exit) ≡ put-at-start (spaced (now (numbers .entry))) (now (buffer .entry)) ⌝ }
+// Puts the ten numbers at the buffer's start, one space between and byte 10 after, and answers how many bytes that takes. Without a
+// loop: each number's size then has its own branches, which are foreseen better.
+fn put_numbers(numbers: [u64; 10], buffer: &mut [u8]) -> usize
+    requires { ⌜ length numbers ≡ 10 ⌝ }
+    requires { ⌜ length (spaced numbers) ≤ length (now buffer) ⌝ }
+    ensures { λ r. ⌜ r ≡ length (spaced numbers) ⌝ }
+    ensures { λ _. ⌜ now (buffer .exit) ≡ put-at-start (spaced numbers) (now (buffer .entry)) ⌝ }
 {
-    let last = numbers.len() - 1;
-    let mut at: usize = 0;
-    let mut i: usize = 0;
-    while i < last {
-        at = put_field(buffer, at, numbers[i], 32);
-        i += 1;
-    }
-    put_field(buffer, at, numbers[last], 10)
+    let mut at = put_field(buffer, 0, numbers[0], 32);
+    at = put_field(buffer, at, numbers[1], 32);
+    at = put_field(buffer, at, numbers[2], 32);
+    at = put_field(buffer, at, numbers[3], 32);
+    at = put_field(buffer, at, numbers[4], 32);
+    at = put_field(buffer, at, numbers[5], 32);
+    at = put_field(buffer, at, numbers[6], 32);
+    at = put_field(buffer, at, numbers[7], 32);
+    at = put_field(buffer, at, numbers[8], 32);
+    put_field(buffer, at, numbers[9], 10)
 }
 
 // The ten numbers, in the line's order.
@@ -141,6 +177,5 @@ pub fn write_line(counters: Counters, buffer: &mut [u8]) -> LineAnswer
     if buffer.len() < 128 {
         return LineAnswer::TooSmall;
     }
-    let shown = numbers(counters);
-    LineAnswer::Written(put_numbers(&shown, buffer))
+    LineAnswer::Written(put_numbers(numbers(counters), buffer))
 }

@@ -1,3 +1,4 @@
 -- The proofs, by topic.
+pub mod Ends
 pub mod Search
 pub mod Part

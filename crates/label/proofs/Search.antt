@@ -11,6 +11,7 @@ use lib.ListN.{length, getD, drop, drop-of-length-le}
 use lib.Seq.{drop-cons}
 use borrow.Author.Tests.{eq-eqb, ne-eqb, lt-ltb, le-ltb}
 use Rattle.model.specs.Questions.{accepted, refused, first-no}
+use Rattle.label.specs.Ends.{Passed}
 use Rattle.model.specs.Label.{Stretch, no-stretch, lines-from, lines, label, label-answer}
 
 -- the lines from place i on, where the line that is open there starts at `start`
@@ -108,6 +109,22 @@ module _ {sheet : List ℕ} {status left start i : ℕ} (s : Sought sheet status
   pub missing : length sheet ≤ i → no-stretch ≡ label sheet status
   unfolding label
   missing past = rw (s .same-line, at-end sheet start i past)
+
+-- a stretch without byte 10 lengthens the open line too
+past-stretch : {sheet : List ℕ} {status left start : ℕ} (n i j : ℕ) → j ≡ i + n → Passed sheet i j → Sought sheet status left start i
+    → Sought sheet status left start j
+past-stretch zero i j e p s =
+    let same : j ≡ i = omega arith in
+    rw same s
+past-stretch {sheet} (suc n) i j e p s =
+    let inside : i < length sheet = omega (arith, p .within) in
+    let rest : Passed sheet (i + 1) j =
+    record { forward = omega arith; within = p .within; clear = λ k least most. p .clear k (omega arith) most } in
+    past-stretch n (i + 1) j (omega arith) rest (past-byte s inside (p .clear i (omega arith) (omega arith)))
+
+pub past-bytes : {sheet : List ℕ} {status left start i j : ℕ} → Sought sheet status left start i → Passed sheet i j
+    → Sought sheet status left start j
+past-bytes {i = i} {j = j} s p = past-stretch (j - i) i j (omega (arith, p .forward)) p s
 
 -- where the line of a number ends; the empty part, where there is none, ends at 0
 abbrev line-end : List Stretch → ℕ → ℕ

@@ -1,2 +1,3 @@
 -- What the contracts of `label` cite beside the model's definitions.
 pub mod Found
+pub mod Ends

@@ -1,16 +1,16 @@
 -- `counters::count_digits` meets its contract. The loop's invariant: the digits counted and those of what is left are the
--- number's, but for the one that is counted from the start. The measure is what is left. Assumes nothing.
+-- number's. The measure is what is left. Assumes nothing.
 use mathlib.Core.Path.{_≡_}
-use Prim.Native.Nat.{_+_}
+use Prim.Native.Nat.{_+_, _≤_}
 use native.Mathlib.Omega.{arith}
 use lib.ListN.{length}
 use Rattle.model.specs.Counters.{decimal}
-use Rattle.counters.proofs.Decimal.{one-long, more-long, at-most}
+use Rattle.counters.proofs.Decimal.{one-long, two-long, three-long, four-long, four-more, at-most}
 use Rattle.counters.proofs.count_digits.Statement.{statement}
 use Rattle.counters.proofs.count_digits.Tie as tie
 
 abbrev Inv-loop : tie.InvT-loop
-Inv-loop n rest₀ count₀ rest count = count + length (decimal rest) ≡ length (decimal n) + 1
+Inv-loop n rest₀ count₀ rest count = (count + length (decimal rest) ≡ length (decimal n)) × (count ≤ 20)
 
 abbrev μ-loop : tie.MeasureT-loop
 μ-loop n rest₀ count₀ rest count = rest
@@ -19,19 +19,54 @@ loop-holds : tie.Need-loop-holds Inv-loop μ-loop
 loop-holds c = omega arith
 
 add-count : tie.Need-add-count Inv-loop μ-loop
-add-count c =
-    let n = c .before .before .args .n in
-    let rest = c .before .loop .rest in
-    omega (arith, more-long rest (c .loop-test .taken), at-most 19 n (omega arith))
+add-count c = omega arith
 
 loop-less : tie.Need-loop-less Inv-loop μ-loop
 loop-less c = omega arith
 
 loop-again : tie.Need-loop-again Inv-loop μ-loop
-loop-again c = omega (arith, more-long (c .before .loop .rest) (c .loop-test .taken))
+loop-again c =
+    omega (arith, four-more (c .before .loop .rest) (c .loop-test .taken), at-most 19 (c .before .before .args .n) (omega arith))
+
+add-result : tie.Need-add-result Inv-loop μ-loop
+add-result c = omega arith
 
 returns : tie.Need-returns Inv-loop μ-loop
-returns c = omega (arith, one-long (c .before .loop .rest) (c .loop-test .left))
+returns c = omega (arith, one-long (c .before .before .loop .rest) (omega arith))
+
+add-result-2 : tie.Need-add-result-2 Inv-loop μ-loop
+add-result-2 c = omega arith
+
+returns-2 : tie.Need-returns-2 Inv-loop μ-loop
+returns-2 c = omega (arith, two-long (c .before .before .before .loop .rest) (omega arith) (omega arith))
+
+add-result-3 : tie.Need-add-result-3 Inv-loop μ-loop
+add-result-3 c = omega arith
+
+returns-3 : tie.Need-returns-3 Inv-loop μ-loop
+returns-3 c = omega (arith, three-long (c .before .before .before .before .loop .rest) (omega arith) (omega arith))
+
+add-result-4 : tie.Need-add-result-4 Inv-loop μ-loop
+add-result-4 c = omega arith
+
+returns-4 : tie.Need-returns-4 Inv-loop μ-loop
+returns-4 c = omega (arith, four-long (c .before .before .before .before .loop .rest) (omega arith) (omega arith))
 
 pub count-digits-spec : {M : Type 1} → statement M
-count-digits-spec = tie.close (tie.spec Inv-loop μ-loop loop-holds add-count loop-less loop-again returns)
+count-digits-spec =
+    tie.close
+    (tie.spec
+    Inv-loop
+    μ-loop
+    loop-holds
+    add-count
+    loop-less
+    loop-again
+    add-result
+    returns
+    add-result-2
+    returns-2
+    add-result-3
+    returns-3
+    add-result-4
+    returns-4)

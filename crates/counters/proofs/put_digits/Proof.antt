@@ -1,46 +1,70 @@
--- `counters::put_digits` meets its contract. The loop's invariant is `Spelling`, the measure the digits left. Assumes nothing.
+-- `counters::put_digits` meets its contract. The loop's invariant is `Spelling`, the measure what is left of the number.
+-- Assumes nothing.
+use mathlib.Core.Path.{_∙_}
 use native.Mathlib.Omega.{arith}
-use borrow.Author.Needs.{needs}
-use Rattle.counters.proofs.Digits.{Spelling, spelling-first, spelling-step, spelling-last}
+use lib.ListN.{length-set}
+use Rattle.counters.proofs.Digits.{Spelling, spelling-first, two-left, spelling-step, spelling-one, spelling-two}
 use Rattle.counters.proofs.put_digits.Statement.{statement}
 use Rattle.counters.proofs.put_digits.Tie as tie
 
 abbrev Inv-loop : tie.InvT-loop
-Inv-loop buffer₀ at count n left₀ rest₀ buffer left rest = Spelling buffer₀ at count n buffer left rest
+Inv-loop buffer₀ at count n left₀ rest₀ buffer left rest = Spelling buffer₀ at n buffer left rest
 
 abbrev μ-loop : tie.MeasureT-loop
-μ-loop buffer₀ at count n left₀ rest₀ buffer left rest = left
+μ-loop buffer₀ at count n left₀ rest₀ buffer left rest = rest
 
 loop-holds : tie.Need-loop-holds Inv-loop μ-loop
-loop-holds c = spelling-first _ _ _ _
+loop-holds c = spelling-first _ _ _ _ (c .before .pre .0) (c .before .pre .1)
 
 sub-left : tie.Need-sub-left Inv-loop μ-loop
-sub-left c = omega arith
+sub-left c = two-left _ _ _ _ _ _ (c .before .loop .inv) (c .loop-test .taken)
 
-add-place : tie.Need-add-place Inv-loop μ-loop
-add-place c = omega arith
+add-put-pair : tie.Need-add-put-pair Inv-loop μ-loop
+add-put-pair c = omega arith
 
-last-digit-requires : tie.Need-last-digit-requires Inv-loop μ-loop
-last-digit-requires c κs = search needs
-
-slice-write-buffer : tie.Need-slice-write-buffer Inv-loop μ-loop
-slice-write-buffer c = omega arith
+put-pair-requires : tie.Need-put-pair-requires Inv-loop μ-loop
+put-pair-requires c κs =
+    let s = c .before .before .loop .inv in
+    (omega arith, omega (arith, s .within, two-left _ _ _ _ _ _ s (c .before .loop-test .taken)))
 
 loop-less : tie.Need-loop-less Inv-loop μ-loop
 loop-less c = omega arith
 
 loop-again : tie.Need-loop-again Inv-loop μ-loop
 loop-again c =
-    let at-loop = c .before .before in
-    let digit = c .last-digit .ensures in
-    rw digit (spelling-step _ _ _ _ (omega arith) _ _ _ _ (omega arith) (at-loop .loop .inv))
+    let at-loop = c .before .before .before .before .before in
+    let h = c .before .before .before .before .loop-test .taken in
+    let two = two-left _ _ _ _ _ _ (at-loop .loop .inv) h in
+    rw (c .before .before .put-pair .ensures) (spelling-step _ _ _ _ _ _ (at-loop .loop .inv) h _ (omega arith))
+
+cast-buffer : tie.Need-cast-buffer Inv-loop μ-loop
+cast-buffer c = omega arith
+
+add-buffer : tie.Need-add-buffer Inv-loop μ-loop
+add-buffer c = omega arith
+
+slice-write-buffer : tie.Need-slice-write-buffer Inv-loop μ-loop
+slice-write-buffer c = spelling-one (c .before .before .loop .inv) (c .if1 .taken) .0
 
 same-length : tie.Need-same-length Inv-loop μ-loop
-same-length c = c .before .loop .inv .same-length
+same-length c = simp length-set (c .before .before .loop .inv .same-length)
 
 returns : tie.Need-returns Inv-loop μ-loop
-returns c =
-    spelling-last _ _ _ _ (omega arith) _ _ _ (omega arith) (c .before .before .before .pre .0) (c .before .loop .inv)
+returns c = spelling-one (c .before .before .loop .inv) (c .if1 .taken) .1
+
+put-pair-requires-2 : tie.Need-put-pair-requires-2 Inv-loop μ-loop
+put-pair-requires-2 c κs =
+    let most = c .before .before .loop-test .left in
+    (most, spelling-two (c .before .before .before .loop .inv) (c .before .if1 .left) most .0)
+
+same-length-2 : tie.Need-same-length-2 Inv-loop μ-loop
+same-length-2 c = c .before .before .put-pair2 .kept .0 ∙ c .before .before .before .before .before .before .loop .inv .same-length
+
+returns-2 : tie.Need-returns-2 Inv-loop μ-loop
+returns-2 c =
+    let at-loop = c .before .before .before .before .before .before in
+    let most = c .before .before .before .before .before .loop-test .left in
+    c .before .before .put-pair2 .ensures ∙ spelling-two (at-loop .loop .inv) (c .before .before .before .before .if1 .left) most .1
 
 pub put-digits-spec : {M : Type 1} → statement M
 put-digits-spec =
@@ -50,10 +74,15 @@ put-digits-spec =
     μ-loop
     loop-holds
     sub-left
-    add-place
-    last-digit-requires
-    slice-write-buffer
+    add-put-pair
+    put-pair-requires
     loop-less
     loop-again
+    cast-buffer
+    add-buffer
+    slice-write-buffer
     same-length
-    returns)
+    returns
+    put-pair-requires-2
+    same-length-2
+    returns-2)

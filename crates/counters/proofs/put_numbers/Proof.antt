@@ -1,89 +1,207 @@
--- `counters::put_numbers` meets its contract. The loop's invariant is `Lined`, the measure the numbers before the last that are
--- left. Assumes nothing.
-use mathlib.Core.Path.{_∙_}
-use Prim.Native.Nat.{_-_}
+-- `counters::put_numbers` meets its contract: before each number `Lined` holds, with the number of numbers that are put.
+-- Assumes nothing.
+use mathlib.Core.Path.{_≡_, _∙_}
+use Prim.Native.Nat.{_+_}
 use native.Mathlib.Omega.{arith}
+use lib.ListN.{length}
 use borrow.Author.Needs.{needs}
-use Rattle.counters.proofs.Spaced.{Lined, lined-first, more-room, lined-more, lined-until, last-room, lined-size, lined-last}
+use Rattle.counters.proofs.Spaced.{Lined, lined-first, more-room, lined-more, last-room, lined-size, lined-last}
 use Rattle.counters.proofs.put_numbers.Statement.{statement}
 use Rattle.counters.proofs.put_numbers.Tie as tie
 
-abbrev Inv-loop : tie.InvT-loop
-Inv-loop numbers buffer₀ last at₀ i₀ buffer at i = Lined buffer₀ numbers buffer at i
+-- at each call: what is known at the entry, and what is put
+abbrev start1 : tie.After-put-field-arg → tie.Start
+start1 c = c .before .before
 
-abbrev μ-loop : tie.MeasureT-loop
-μ-loop numbers buffer₀ last at₀ i₀ buffer at i = last - i
+lined1 : (c : tie.After-put-field-arg) → Lined (start1 c .args .buffer .now) (start1 c .args .t1) (start1 c .args .buffer .now) 0 0
+lined1 c = lined-first _ _ (omega (arith, start1 c .pre .0))
 
-sub-last : tie.Need-sub-last Inv-loop μ-loop
-sub-last c = search needs
+abbrev start2 : tie.After-put-field-arg2 → tie.Start
+start2 c = start1 (c .before .before .before .before)
 
-loop-holds : tie.Need-loop-holds Inv-loop μ-loop
-loop-holds c = lined-first _ _ (c .before .before .pre .0)
+lined2 : (c : tie.After-put-field-arg2) → let call = c .before .before .before .put-field in
+    Lined (start2 c .args .buffer .now) (start2 c .args .t1) (call .last .0) (call .result) 1
+lined2 c =
+    let call = c .before .before .before .put-field in
+    rw (call .ensures .0, call .ensures .1)
+    (lined-more _ _ (start2 c .pre .1) _ _ _ (lined1 (c .before .before .before .before)) (omega (arith, start2 c .pre .0)))
 
-mul-put-field : tie.Need-mul-put-field Inv-loop μ-loop
-mul-put-field c = omega (arith, c .before .before .before .before .before .good)
+abbrev start3 : tie.After-put-field-arg3 → tie.Start
+start3 c = start2 (c .before .before .before .before)
 
-shared-slice-read-put-field : tie.Need-shared-slice-read-put-field Inv-loop μ-loop
-shared-slice-read-put-field c = omega arith
+lined3 : (c : tie.After-put-field-arg3) → let call = c .before .before .before .put-field2 in
+    Lined (start3 c .args .buffer .now) (start3 c .args .t1) (call .last .0) (call .result) 2
+lined3 c =
+    let call = c .before .before .before .put-field2 in
+    rw (call .ensures .0, call .ensures .1)
+    (lined-more _ _ (start3 c .pre .1) _ _ _ (lined2 (c .before .before .before .before)) (omega (arith, start3 c .pre .0)))
 
-put-field-requires : tie.Need-put-field-requires Inv-loop μ-loop
-put-field-requires c κs =
-    let at-loop = c .before .before .before in
-    more-room _ _ (at-loop .before .before .before .pre .1) _ _ _ (at-loop .loop .inv) (omega arith)
+abbrev start4 : tie.After-put-field-arg4 → tie.Start
+start4 c = start3 (c .before .before .before .before)
 
-add-i : tie.Need-add-i Inv-loop μ-loop
-add-i c = omega arith
+lined4 : (c : tie.After-put-field-arg4) → let call = c .before .before .before .put-field3 in
+    Lined (start4 c .args .buffer .now) (start4 c .args .t1) (call .last .0) (call .result) 3
+lined4 c =
+    let call = c .before .before .before .put-field3 in
+    rw (call .ensures .0, call .ensures .1)
+    (lined-more _ _ (start4 c .pre .1) _ _ _ (lined3 (c .before .before .before .before)) (omega (arith, start4 c .pre .0)))
 
-loop-less : tie.Need-loop-less Inv-loop μ-loop
-loop-less c = omega arith
+abbrev start5 : tie.After-put-field-arg5 → tie.Start
+start5 c = start4 (c .before .before .before .before)
 
-loop-again : tie.Need-loop-again Inv-loop μ-loop
-loop-again c =
-    let at-loop = c .before .before .before .before .before .before in
-    let called = c .before .before .put-field in
-    rw (called .ensures .0, called .ensures .1)
-    (lined-more _ _ (at-loop .before .before .before .pre .1) _ _ _ (at-loop .loop .inv) (omega arith))
+lined5 : (c : tie.After-put-field-arg5) → let call = c .before .before .before .put-field4 in
+    Lined (start5 c .args .buffer .now) (start5 c .args .t1) (call .last .0) (call .result) 4
+lined5 c =
+    let call = c .before .before .before .put-field4 in
+    rw (call .ensures .0, call .ensures .1)
+    (lined-more _ _ (start5 c .pre .1) _ _ _ (lined4 (c .before .before .before .before)) (omega (arith, start5 c .pre .0)))
 
-mul-put-field-2 : tie.Need-mul-put-field-2 Inv-loop μ-loop
-mul-put-field-2 c = omega (arith, c .before .before .before .before .before .good)
+abbrev start6 : tie.After-put-field-arg6 → tie.Start
+start6 c = start5 (c .before .before .before .before)
 
-shared-slice-read-put-field-2 : tie.Need-shared-slice-read-put-field-2 Inv-loop μ-loop
-shared-slice-read-put-field-2 c = omega arith
+lined6 : (c : tie.After-put-field-arg6) → let call = c .before .before .before .put-field5 in
+    Lined (start6 c .args .buffer .now) (start6 c .args .t1) (call .last .0) (call .result) 5
+lined6 c =
+    let call = c .before .before .before .put-field5 in
+    rw (call .ensures .0, call .ensures .1)
+    (lined-more _ _ (start6 c .pre .1) _ _ _ (lined5 (c .before .before .before .before)) (omega (arith, start6 c .pre .0)))
 
-put-field-requires-2 : tie.Need-put-field-requires-2 Inv-loop μ-loop
-put-field-requires-2 c κs =
-    let at-loop = c .before .before .before in
-    let room = at-loop .before .before .before .pre .1 in
-    let until = lined-until _ _ room _ _ _ (at-loop .loop .inv) (c .before .before .loop-test .left) in
-    last-room _ _ room _ _ _ until (omega arith)
+abbrev start7 : tie.After-put-field-arg7 → tie.Start
+start7 c = start6 (c .before .before .before .before)
 
-same-length : tie.Need-same-length Inv-loop μ-loop
-same-length c = c .before .before .put-field2 .kept .0 ∙ c .before .before .before .before .before .before .loop .inv .same-length
+lined7 : (c : tie.After-put-field-arg7) → let call = c .before .before .before .put-field6 in
+    Lined (start7 c .args .buffer .now) (start7 c .args .t1) (call .last .0) (call .result) 6
+lined7 c =
+    let call = c .before .before .before .put-field6 in
+    rw (call .ensures .0, call .ensures .1)
+    (lined-more _ _ (start7 c .pre .1) _ _ _ (lined6 (c .before .before .before .before)) (omega (arith, start7 c .pre .0)))
 
-returns : tie.Need-returns Inv-loop μ-loop
+abbrev start8 : tie.After-put-field-arg8 → tie.Start
+start8 c = start7 (c .before .before .before .before)
+
+lined8 : (c : tie.After-put-field-arg8) → let call = c .before .before .before .put-field7 in
+    Lined (start8 c .args .buffer .now) (start8 c .args .t1) (call .last .0) (call .result) 7
+lined8 c =
+    let call = c .before .before .before .put-field7 in
+    rw (call .ensures .0, call .ensures .1)
+    (lined-more _ _ (start8 c .pre .1) _ _ _ (lined7 (c .before .before .before .before)) (omega (arith, start8 c .pre .0)))
+
+abbrev start9 : tie.After-put-field-arg9 → tie.Start
+start9 c = start8 (c .before .before .before .before)
+
+lined9 : (c : tie.After-put-field-arg9) → let call = c .before .before .before .put-field8 in
+    Lined (start9 c .args .buffer .now) (start9 c .args .t1) (call .last .0) (call .result) 8
+lined9 c =
+    let call = c .before .before .before .put-field8 in
+    rw (call .ensures .0, call .ensures .1)
+    (lined-more _ _ (start9 c .pre .1) _ _ _ (lined8 (c .before .before .before .before)) (omega (arith, start9 c .pre .0)))
+
+abbrev start10 : tie.After-put-field-arg10 → tie.Start
+start10 c = start9 (c .before .before .before .before)
+
+lined10 : (c : tie.After-put-field-arg10) → let call = c .before .before .before .put-field9 in
+    Lined (start10 c .args .buffer .now) (start10 c .args .t1) (call .last .0) (call .result) 9
+lined10 c =
+    let call = c .before .before .before .put-field9 in
+    rw (call .ensures .0, call .ensures .1)
+    (lined-more _ _ (start10 c .pre .1) _ _ _ (lined9 (c .before .before .before .before)) (omega (arith, start10 c .pre .0)))
+
+array-read-put-field : tie.Need-array-read-put-field
+array-read-put-field c = search needs
+
+put-field-requires : tie.Need-put-field-requires
+put-field-requires c κs = more-room _ _ (start1 c .pre .1) _ _ _ (lined1 c) (omega (arith, start1 c .pre .0))
+
+array-read-put-field-2 : tie.Need-array-read-put-field-2
+array-read-put-field-2 c = search needs
+
+put-field-requires-2 : tie.Need-put-field-requires-2
+put-field-requires-2 c κs = more-room _ _ (start2 c .pre .1) _ _ _ (lined2 c) (omega (arith, start2 c .pre .0))
+
+array-read-put-field-3 : tie.Need-array-read-put-field-3
+array-read-put-field-3 c = search needs
+
+put-field-requires-3 : tie.Need-put-field-requires-3
+put-field-requires-3 c κs = more-room _ _ (start3 c .pre .1) _ _ _ (lined3 c) (omega (arith, start3 c .pre .0))
+
+array-read-put-field-4 : tie.Need-array-read-put-field-4
+array-read-put-field-4 c = search needs
+
+put-field-requires-4 : tie.Need-put-field-requires-4
+put-field-requires-4 c κs = more-room _ _ (start4 c .pre .1) _ _ _ (lined4 c) (omega (arith, start4 c .pre .0))
+
+array-read-put-field-5 : tie.Need-array-read-put-field-5
+array-read-put-field-5 c = search needs
+
+put-field-requires-5 : tie.Need-put-field-requires-5
+put-field-requires-5 c κs = more-room _ _ (start5 c .pre .1) _ _ _ (lined5 c) (omega (arith, start5 c .pre .0))
+
+array-read-put-field-6 : tie.Need-array-read-put-field-6
+array-read-put-field-6 c = search needs
+
+put-field-requires-6 : tie.Need-put-field-requires-6
+put-field-requires-6 c κs = more-room _ _ (start6 c .pre .1) _ _ _ (lined6 c) (omega (arith, start6 c .pre .0))
+
+array-read-put-field-7 : tie.Need-array-read-put-field-7
+array-read-put-field-7 c = search needs
+
+put-field-requires-7 : tie.Need-put-field-requires-7
+put-field-requires-7 c κs = more-room _ _ (start7 c .pre .1) _ _ _ (lined7 c) (omega (arith, start7 c .pre .0))
+
+array-read-put-field-8 : tie.Need-array-read-put-field-8
+array-read-put-field-8 c = search needs
+
+put-field-requires-8 : tie.Need-put-field-requires-8
+put-field-requires-8 c κs = more-room _ _ (start8 c .pre .1) _ _ _ (lined8 c) (omega (arith, start8 c .pre .0))
+
+array-read-put-field-9 : tie.Need-array-read-put-field-9
+array-read-put-field-9 c = search needs
+
+put-field-requires-9 : tie.Need-put-field-requires-9
+put-field-requires-9 c κs = more-room _ _ (start9 c .pre .1) _ _ _ (lined9 c) (omega (arith, start9 c .pre .0))
+
+array-read-put-field-10 : tie.Need-array-read-put-field-10
+array-read-put-field-10 c = search needs
+
+put-field-requires-10 : tie.Need-put-field-requires-10
+put-field-requires-10 c κs = last-room _ _ (start10 c .pre .1) _ _ _ (lined10 c) (omega (arith, start10 c .pre .0))
+
+same-length : tie.Need-same-length
+same-length c = c .before .before .put-field10 .kept .0 ∙ lined10 (c .before .before .before) .same-length
+
+returns : tie.Need-returns
 returns c =
-    let at-loop = c .before .before .before .before .before .before in
-    let called = c .before .before .put-field2 in
-    let room = at-loop .before .before .before .pre .1 in
-    let until = lined-until _ _ room _ _ _ (at-loop .loop .inv) (c .before .before .before .before .before .loop-test .left) in
-    (called .ensures .0 ∙ lined-size _ _ room _ _ _ until (omega arith), called .ensures .1 ∙ lined-last _ _ room _ _ _ until (omega arith))
+    let call = c .before .before .put-field10 in
+    let last = c .before .before .before in
+    let room = start10 last .pre .1 in
+    let end : 9 + 1 ≡ length (start10 last .args .t1) = omega (arith, start10 last .pre .0) in (
+      call .ensures .0 ∙ lined-size _ _ room _ _ _ (lined10 last) end,
+      call .ensures .1 ∙ lined-last _ _ room _ _ _ (lined10 last) end,
+    )
 
 pub put-numbers-spec : {M : Type 1} → statement M
 put-numbers-spec =
     tie.close
     (tie.spec
-    Inv-loop
-    μ-loop
-    sub-last
-    loop-holds
-    mul-put-field
-    shared-slice-read-put-field
+    array-read-put-field
     put-field-requires
-    add-i
-    loop-less
-    loop-again
-    mul-put-field-2
-    shared-slice-read-put-field-2
+    array-read-put-field-2
     put-field-requires-2
+    array-read-put-field-3
+    put-field-requires-3
+    array-read-put-field-4
+    put-field-requires-4
+    array-read-put-field-5
+    put-field-requires-5
+    array-read-put-field-6
+    put-field-requires-6
+    array-read-put-field-7
+    put-field-requires-7
+    array-read-put-field-8
+    put-field-requires-8
+    array-read-put-field-9
+    put-field-requires-9
+    array-read-put-field-10
+    put-field-requires-10
     same-length
     returns)

@@ -14,12 +14,9 @@ returns c = too-small _ _ _ (c .if1 .taken)
 numbers-requires : tie.Need-numbers-requires
 numbers-requires c κs = search needs
 
-slice-aggregate-put-numbers : tie.Need-slice-aggregate-put-numbers
-slice-aggregate-put-numbers c = search needs
-
 put-numbers-requires : tie.Need-put-numbers-requires
 put-numbers-requires c κs =
-    let k = c .before .before in
+    let k = c .before in
     let s = k .before .before .before in
     (rw (k .numbers .ensures) (omega arith), line-room (s .args .counters) (s .args .buffer .now) _ (k .numbers .ensures) (k .before .if1 .left) (wide s))
 
@@ -29,9 +26,9 @@ same-length c = search needs
 returns-2 : tie.Need-returns-2
 returns-2 c =
     let called = c .before .before .put-numbers in
-    let k = c .before .before .before .before .before in
+    let k = c .before .before .before .before in
     let s = k .before .before .before in
     line-written (s .args .counters) (s .args .buffer .now) _ (k .numbers .ensures) (k .before .if1 .left) _ _ (called .ensures .0) (called .ensures .1)
 
 pub write-line-spec : {M : Type 1} → statement M
-write-line-spec = tie.close (tie.spec returns numbers-requires slice-aggregate-put-numbers put-numbers-requires same-length returns-2)
+write-line-spec = tie.close (tie.spec returns numbers-requires put-numbers-requires same-length returns-2)

@@ -1,55 +1,60 @@
--- `label::find` meets its contract. The loop's invariant is `Sought`: the line that is sought is line `left` of those ahead.
--- The measure is what is left of the sheet. Assumes nothing.
-use Prim.Native.Nat.{_-_}
+-- `label::find` meets its contract. The loop's invariant is `Sought`, of the end of the open line: the line that is sought is line
+-- `left` of those ahead. The measure is what is left of the sheet. Assumes nothing.
+use mathlib.Core.Path.{_≡_}
+use Prim.Native.Nat.{_-_, _<_}
 use native.Mathlib.Omega.{arith}
-use lib.ListN.{length}
-use Rattle.label.proofs.Search.{Sought, at-first, past-byte, past-line, here, here-answer, missing, missing-answer}
+use lib.ListN.{length, getD}
+use Rattle.label.proofs.Search.{Sought, at-first, past-bytes, past-line, here, here-answer, missing, missing-answer}
 use Rattle.label.proofs.find.Statement.{statement}
 use Rattle.label.proofs.find.Tie as tie
 
 abbrev Inv-loop : tie.InvT-loop
-Inv-loop sheet status left₀ start₀ i₀ left start i = Sought sheet status left start i
+Inv-loop sheet status left₀ start₀ end₀ left start end =
+    Sought sheet status left start end × (end < length sheet → getD sheet end 0 ≡ 10)
 
 abbrev μ-loop : tie.MeasureT-loop
-μ-loop sheet status left₀ start₀ i₀ left start i = length sheet - i
+μ-loop sheet status left₀ start₀ end₀ left start end = length sheet - end
+
+line-end-requires : tie.Need-line-end-requires Inv-loop μ-loop
+line-end-requires c κs = omega arith
 
 loop-holds : tie.Need-loop-holds Inv-loop μ-loop
-loop-holds c = at-first (c .args .sheet .now) (c .args .status)
+loop-holds c =
+    let found = c .line-end .ensures in
+    (past-bytes (at-first (c .before .before .args .sheet .now) (c .before .before .args .status)) (found .passed), found .ended)
 
-shared-slice-read-if1 : tie.Need-shared-slice-read-if1 Inv-loop μ-loop
-shared-slice-read-if1 c = omega arith
-
-add-i : tie.Need-add-i Inv-loop μ-loop
-add-i c = omega arith
-
-loop-less : tie.Need-loop-less Inv-loop μ-loop
-loop-less c = omega arith
-
-loop-again : tie.Need-loop-again Inv-loop μ-loop
-loop-again c = past-byte (c .before .before .before .loop .inv) (omega arith) (c .if1 .taken)
-
-sub-t10 : tie.Need-sub-t10 Inv-loop μ-loop
-sub-t10 c = omega arith
+sub-t8 : tie.Need-sub-t8 Inv-loop μ-loop
+sub-t8 c = omega arith
 
 returns : tie.Need-returns Inv-loop μ-loop
 returns c =
-    let sought = c .before .before .before .before .loop .inv in
-    (here-answer sought (omega arith) (c .before .if1 .left) (c .if2 .taken), here sought (omega arith) (c .before .if1 .left) (c .if2 .taken))
+    let sought = c .before .before .loop .inv .0 in
+    let inside = c .before .loop-test .taken in
+    let ten = c .before .before .loop .inv .1 inside in
+    (here-answer sought inside ten (omega arith), here sought inside ten (omega arith))
 
 sub-left : tie.Need-sub-left Inv-loop μ-loop
 sub-left c = omega arith
 
-add-i-2 : tie.Need-add-i-2 Inv-loop μ-loop
-add-i-2 c = omega arith
+add-start : tie.Need-add-start Inv-loop μ-loop
+add-start c = omega arith
 
-loop-less-2 : tie.Need-loop-less-2 Inv-loop μ-loop
-loop-less-2 c = omega arith
+line-end-requires-2 : tie.Need-line-end-requires-2 Inv-loop μ-loop
+line-end-requires-2 c κs = omega arith
 
-loop-again-2 : tie.Need-loop-again-2 Inv-loop μ-loop
-loop-again-2 c = past-line (c .before .before .before .before .loop .inv) (omega arith) (c .before .if1 .left) (c .if2 .left)
+loop-less : tie.Need-loop-less Inv-loop μ-loop
+loop-less c = omega (arith, c .before .before .loop-test .taken, c .line-end2 .ensures .passed .forward)
+
+loop-again : tie.Need-loop-again Inv-loop μ-loop
+loop-again c =
+    let at-loop = c .before .before .before in
+    let inside = c .before .before .loop-test .taken in
+    let found = c .line-end2 .ensures in
+    let next = past-line (at-loop .loop .inv .0) inside (at-loop .loop .inv .1 inside) (c .before .if1 .left) in
+    (past-bytes next (found .passed), found .ended)
 
 returns-2 : tie.Need-returns-2 Inv-loop μ-loop
-returns-2 c = (missing-answer (c .before .loop .inv) (c .loop-test .left), missing (c .before .loop .inv) (c .loop-test .left))
+returns-2 c = (missing-answer (c .before .loop .inv .0) (c .loop-test .left), missing (c .before .loop .inv .0) (c .loop-test .left))
 
 pub find-spec : {M : Type 1} → statement M
 find-spec =
@@ -57,15 +62,13 @@ find-spec =
     (tie.spec
     Inv-loop
     μ-loop
+    line-end-requires
     loop-holds
-    shared-slice-read-if1
-    add-i
-    loop-less
-    loop-again
-    sub-t10
+    sub-t8
     returns
     sub-left
-    add-i-2
-    loop-less-2
-    loop-again-2
+    add-start
+    line-end-requires-2
+    loop-less
+    loop-again
     returns-2)

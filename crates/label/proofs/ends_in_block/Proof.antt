@@ -1,0 +1,59 @@
+-- `label::ends_in_block` meets its contract. The loop's invariant is `InBlock`, the measure what is left of the block.
+-- Assumes nothing.
+use Prim.Native.Nat.{_-_}
+use native.Mathlib.Omega.{arith}
+use borrow.Author.Needs.{needs}
+use Rattle.label.proofs.Ends.{InBlock, block-first, block-more, block-last}
+use Rattle.label.proofs.ends_in_block.Statement.{statement}
+use Rattle.label.proofs.ends_in_block.Tie as tie
+
+abbrev Inv-loop : tie.InvT-loop
+Inv-loop sheet at ends₀ k₀ ends k = InBlock sheet at ends k
+
+abbrev μ-loop : tie.MeasureT-loop
+μ-loop sheet at ends₀ k₀ ends k = 64 - k
+
+loop-holds : tie.Need-loop-holds Inv-loop μ-loop
+loop-holds c = block-first _ _ (c .before .pre)
+
+add-is-end : tie.Need-add-is-end Inv-loop μ-loop
+add-is-end c = omega arith
+
+shared-slice-read-is-end : tie.Need-shared-slice-read-is-end Inv-loop μ-loop
+shared-slice-read-is-end c = omega arith
+
+is-end-requires : tie.Need-is-end-requires Inv-loop μ-loop
+is-end-requires c κs = search needs
+
+add-ends : tie.Need-add-ends Inv-loop μ-loop
+add-ends c = omega (arith, c .before .before .before .loop .inv .most, c .before .before .before .loop .inv .upto, c .is-end .ensures .most)
+
+add-k : tie.Need-add-k Inv-loop μ-loop
+add-k c = omega arith
+
+loop-less : tie.Need-loop-less Inv-loop μ-loop
+loop-less c = omega arith
+
+loop-again : tie.Need-loop-again Inv-loop μ-loop
+loop-again c =
+    let at-loop = c .before .before .before in
+    block-more _ _ (at-loop .before .before .pre) (at-loop .loop .inv) (omega arith) _ (c .is-end .ensures)
+
+returns : tie.Need-returns Inv-loop μ-loop
+returns c = block-last _ _ (c .before .before .before .pre) (c .before .loop .inv) (omega arith)
+
+pub ends-in-block-spec : {M : Type 1} → statement M
+ends-in-block-spec =
+    tie.close
+    (tie.spec
+    Inv-loop
+    μ-loop
+    loop-holds
+    add-is-end
+    shared-slice-read-is-end
+    is-end-requires
+    add-ends
+    add-k
+    loop-less
+    loop-again
+    returns)
