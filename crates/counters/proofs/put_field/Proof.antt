@@ -9,7 +9,7 @@ use Rattle.model.specs.Counters.{decimal}
 use Rattle.counters.specs.Put.{put}
 use Rattle.counters.proofs.Decimal.{one-long, two-long, two-digits}
 use Rattle.counters.proofs.Digits.{digit-stored}
-use Rattle.counters.proofs.Put.{Ended, ended, piece-room}
+use Rattle.counters.proofs.Put.{Ended, ended-at, piece-room}
 use Rattle.counters.proofs.put_field.Statement.{statement}
 use Rattle.counters.proofs.put_field.Tie as tie
 
@@ -32,7 +32,7 @@ one : (c : tie.Then1) → let s = c .before .before .args in
 one c =
     let s = c .before .before .args in
     let h = c .if1 .taken in
-    ended _ _ _ _ _ _ (c .before .before .pre) (omega (arith, one-long (s .n) h))
+    ended-at _ _ _ _ _ _ (c .before .before .pre) (omega (arith, one-long (s .n) h))
     (digit-stored (s .at) (s .n) (s .buffer .now) h (omega (arith, one-inside c)))
 
 pair-there : (c : tie.After-slice-known2) → let s = start-two c .args in
@@ -41,14 +41,14 @@ pair-there c =
     let s = start-two c .args in
     let least = c .before .before .before .before .before .if1 .left in
     let most = c .before .before .before .before .if2 .taken in
-    ended _ _ _ _ _ _ (start-two c .pre) (omega (arith, two-long (s .n) least most))
+    ended-at _ _ _ _ _ _ (start-two c .pre) (omega (arith, two-long (s .n) least most))
     (c .before .before .put-pair .ensures ∙ ap (λ (t : List ℕ). put (s .at) t (s .buffer .now)) (sym (two-digits (s .n) least most)))
 
 more : (c : tie.After-slice-known3) → let s = start-more c .args in
     Ended (s .at) (decimal (s .n)) (s .end) (s .buffer .now) (c .before .before .put-digits .last .0)
     (s .at + c .before .before .before .before .count-digits .result)
 more c =
-    ended _ _ _ _ _ _ (start-more c .pre) (omega (arith, c .before .before .before .before .count-digits .ensures))
+    ended-at _ _ _ _ _ _ (start-more c .pre) (omega (arith, c .before .before .before .before .count-digits .ensures))
     (c .before .before .put-digits .ensures)
 
 cast-buffer : tie.Need-cast-buffer
