@@ -1,0 +1,235 @@
+//! Grant, tick and log.
+
+use super::{Job, SIZES, WORKERS};
+
+/// The largest power of R that is at most 64, for R = 2 to 7.
+const TOP_DESIRES: [u8; 6] = [64, 27, 64, 25, 36, 49];
+const MOST_QUANTA: u16 = 65_535;
+
+impl Job {
+    /// A grant of any number of workers; refused with 11 to 14.
+    #[inline(never)]
+    pub fn grant(&mut self, workers: u64) -> u8 {
+        self.grant_inline(workers)
+    }
+
+    /// A tick with a choice for each granted worker; refused with 11 and 15 to 17.
+    #[inline(never)]
+    pub fn tick(&mut self, choices: &[u8]) -> u8 {
+        self.tick_inline(choices)
+    }
+
+    /// A log of any bytes; 18 where an entry is broken. `refusals` becomes the count of refused calls.
+    #[inline(never)]
+    pub fn run_log(&mut self, log: &[u8], refusals: &mut u64) -> u8 {
+        let mut refused = 0;
+        let mut rest = log;
+        while let Some((&head, after)) = rest.split_first() {
+            if head < 128 {
+                refused += u64::from(self.grant_inline(u64::from(head)) != 0);
+                rest = after;
+                continue;
+            }
+            let count = usize::from(head & 127);
+            if count > after.len() {
+                *refusals = refused;
+                return 18;
+            }
+            let (choices, after) = after.split_at(count);
+            refused += u64::from(self.tick_inline(choices) != 0);
+            rest = after;
+        }
+        *refusals = refused;
+        0
+    }
+
+    #[inline(always)]
+    fn grant_inline(&mut self, workers: u64) -> u8 {
+        if self.done == self.tasks {
+            return 11;
+        }
+        if self.is_open {
+            return 12;
+        }
+        if self.begun == MOST_QUANTA {
+            return 13;
+        }
+        if workers > u64::from(self.desire) {
+            return 14;
+        }
+        let granted = workers as usize;
+        let before = usize::from(self.workers);
+        if granted < before {
+            // SAFETY: `before` is at most 64.
+            unsafe { self.withdraw(granted, before) };
+        } else {
+            self.ends[SIZES + before..SIZES + granted].fill(0);
+        }
+        if !self.started && granted > 0 {
+            self.ends[0] = 0;
+            self.ends[SIZES] = 1;
+            self.started = true;
+        }
+        self.workers = granted as u8;
+        self.usage = 0;
+        self.is_open = true;
+        self.ticks = 0;
+        self.begun += 1;
+        0
+    }
+
+    /// The deques of workers `from` up to `to` that are not empty join the end of the muggable ones.
+    ///
+    /// # Safety
+    /// `to` is at most 64.
+    #[inline(always)]
+    unsafe fn withdraw(&mut self, from: usize, to: usize) {
+        let ends = self.ends.as_mut_ptr();
+        let mut end = self.head + self.waiting;
+        for worker in from..to {
+            let size = *ends.add(SIZES + worker);
+            if size != 0 {
+                let place = WORKERS + end % WORKERS;
+                *ends.add(place) = *ends.add(worker);
+                *ends.add(SIZES + place) = size;
+                end += 1;
+            }
+        }
+        self.waiting = end - self.head;
+    }
+
+    #[inline(always)]
+    fn tick_inline(&mut self, choices: &[u8]) -> u8 {
+        if self.done == self.tasks {
+            return 11;
+        }
+        if !self.is_open {
+            return 15;
+        }
+        let workers = self.workers;
+        if choices.len() != usize::from(workers) {
+            return 16;
+        }
+        if choices.iter().fold(false, |bad, &choice| bad | (choice >= workers)) {
+            return 17;
+        }
+        // SAFETY: there are at most 64 choices, each below the number of workers.
+        unsafe { self.cycles(choices) };
+        self.ticks += 1;
+        if self.ticks == self.quantum_length && self.done != self.tasks {
+            self.close_quantum();
+        }
+        0
+    }
+
+    /// The workers' cycles. The counts of mug and steal cycles follow from the others at the end.
+    ///
+    /// # Safety
+    /// There are at most 64 choices, each below the number of workers.
+    #[inline(always)]
+    unsafe fn cycles(&mut self, choices: &[u8]) {
+        let ends = self.ends.as_mut_ptr();
+        let unworked = u64::from(self.tasks - self.done);
+        let (waiting, mut left) = (self.waiting, self.waiting);
+        let mut head = self.head;
+        let (mut works, mut successes, mut cycles) = (0, 0, choices.len() as u64);
+        for (worker, &choice) in choices.iter().enumerate() {
+            let size = *ends.add(SIZES + worker);
+            if size != 0 {
+                self.work(worker, size);
+                works += 1;
+                if works == unworked {
+                    cycles = worker as u64 + 1;
+                    break;
+                }
+            } else if left != 0 {
+                *ends.add(worker) = *ends.add(WORKERS + head);
+                *ends.add(SIZES + worker) = *ends.add(SIZES + WORKERS + head);
+                head = (head + 1) % WORKERS;
+                left -= 1;
+            } else {
+                successes += self.steal(worker, usize::from(choice));
+            }
+        }
+        let mugs = (waiting - left) as u64;
+        self.head = head;
+        self.waiting = left;
+        self.done += works as u16;
+        self.works += works;
+        self.mugs += mugs;
+        self.steals += cycles - works - mugs;
+        self.successes += successes;
+        self.usage += works + mugs;
+    }
+
+    /// The front task of the worker's deque of this size is worked.
+    ///
+    /// # Safety
+    /// The worker is below 64 and its deque has this size, above 0.
+    #[inline(always)]
+    unsafe fn work(&mut self, worker: usize, size: u16) {
+        let task = usize::from(*self.ends.get_unchecked(worker));
+        *self.pending.get_unchecked_mut(task) = 3;
+        let one = *self.first.get_unchecked(task);
+        let two = *self.second.get_unchecked(task);
+        let mut deque = (*self.next.get_unchecked(task), size - 1);
+        if two != 0 {
+            deque = self.release(two, deque);
+        }
+        if one != 0 {
+            deque = self.release(one, deque);
+        }
+        *self.ends.get_unchecked_mut(worker) = deque.0;
+        *self.ends.get_unchecked_mut(SIZES + worker) = deque.1;
+    }
+
+    /// A predecessor of the task was worked: where it was the last one, the task goes to the front of the deque (front and size). The link
+    /// of a task that is not ready means nothing, so it is stored without asking.
+    ///
+    /// # Safety
+    /// The task is below 1,024.
+    #[inline(always)]
+    unsafe fn release(&mut self, task: u16, (front, size): (u16, u16)) -> (u16, u16) {
+        let at = usize::from(task);
+        let awaited = *self.pending.get_unchecked(at) - 1;
+        *self.pending.get_unchecked_mut(at) = awaited;
+        *self.next.get_unchecked_mut(at) = front;
+        let ready = awaited == 0;
+        (if ready { task } else { front }, size + u16::from(ready))
+    }
+
+    /// The back task of a deque of two or more becomes the thief's deque. How many steals that were.
+    ///
+    /// # Safety
+    /// Both are below 64.
+    #[inline(always)]
+    unsafe fn steal(&mut self, thief: usize, victim: usize) -> u64 {
+        let size = *self.ends.get_unchecked(SIZES + victim);
+        if size < 2 {
+            return 0;
+        }
+        let mut task = *self.ends.get_unchecked(victim);
+        for _ in 1..size {
+            task = *self.next.get_unchecked(usize::from(task));
+        }
+        *self.ends.get_unchecked_mut(SIZES + victim) = size - 1;
+        *self.ends.get_unchecked_mut(thief) = task;
+        *self.ends.get_unchecked_mut(SIZES + thief) = 1;
+        1
+    }
+
+    /// The quantum's end.
+    #[inline(always)]
+    fn close_quantum(&mut self) {
+        let owed = u64::from(self.utilization) * u64::from(self.quantum_length) * u64::from(self.workers);
+        if 100 * self.usage < owed {
+            self.desire /= self.responsiveness;
+        } else if self.workers == self.desire {
+            let top = TOP_DESIRES[usize::from(self.responsiveness) - 2];
+            if self.desire != top {
+                self.desire *= self.responsiveness;
+            }
+        }
+        self.is_open = false;
+    }
+}
