@@ -1,0 +1,95 @@
+//! Times of the sides, taken by turns.
+
+use std::time::Instant;
+
+use crate::rows::{Row, Work, SIDES};
+
+/// A middle value and how far the others lie from it.
+#[derive(Clone, Copy, Debug, Default)]
+pub struct Spread {
+    pub low: f64,
+    pub middle: f64,
+    pub high: f64,
+}
+
+/// The 10th, 50th and 90th percentile.
+pub fn spread(mut values: Vec<f64>) -> Spread {
+    values.sort_by(f64::total_cmp);
+    let at = |part: usize| values.get((values.len() - 1) * part / 100).copied().unwrap_or(f64::NAN);
+    Spread {
+        low: at(10),
+        middle: at(50),
+        high: at(90),
+    }
+}
+
+/// How much is measured.
+#[derive(Clone, Copy)]
+pub struct Effort {
+    pub rounds: usize,
+    /// Nanoseconds that a sample takes, about.
+    pub sample: f64,
+}
+
+/// What was measured of a row.
+pub struct Measured {
+    /// Nanoseconds an operation, by side.
+    pub times: [Spread; 3],
+    /// The proved side's time by another side's, in the same round.
+    pub ratios: [Spread; 3],
+}
+
+/// The measured part. Its name is known to the counting of instructions, which counts in here only.
+#[no_mangle]
+#[inline(never)]
+pub fn bench_timed_part(work: &mut dyn Work) {
+    work.run();
+}
+
+/// One timed run, in nanoseconds.
+fn timed(work: &mut dyn Work) -> f64 {
+    work.restore();
+    let start = Instant::now();
+    bench_timed_part(work);
+    start.elapsed().as_nanos() as f64
+}
+
+/// The median of several runs.
+fn sample(work: &mut dyn Work, runs: usize) -> f64 {
+    spread((0..runs).map(|_| timed(work)).collect()).middle
+}
+
+/// Runs each side once, and stops where the outcomes differ.
+pub fn agree(row: &mut Row) {
+    let mut outcomes = Vec::new();
+    for work in &mut row.works {
+        work.restore();
+        work.run();
+        outcomes.push(work.outcome());
+    }
+    for (outcome, side) in outcomes.iter().zip(SIDES) {
+        assert!(*outcome == outcomes[0], "row {}: {} differs from {}", row.name, side, SIDES[0]);
+    }
+}
+
+/// Measures a row: in each round a sample of every side, by turns, beginning with another side each time.
+pub fn measure(row: &mut Row, effort: Effort) -> Measured {
+    let mut runs = [0; 3];
+    for (work, runs) in row.works.iter_mut().zip(&mut runs) {
+        let once = sample(&mut **work, 5).max(1.0);
+        *runs = ((effort.sample / once) as usize).clamp(5, 1000);
+    }
+    let mut times = [Vec::new(), Vec::new(), Vec::new()];
+    for round in 0..effort.rounds {
+        for turn in 0..SIDES.len() {
+            let side = (round + turn) % SIDES.len();
+            let time = sample(&mut *row.works[side], runs[side]);
+            times[side].push(time / row.operations as f64);
+        }
+    }
+    let ratio = |other: &Vec<f64>| spread(times[0].iter().zip(other).map(|(proved, other)| proved / other).collect());
+    Measured {
+        ratios: [ratio(&times[0]), ratio(&times[1]), ratio(&times[2])],
+        times: times.clone().map(spread),
+    }
+}
