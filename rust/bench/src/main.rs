@@ -55,8 +55,8 @@ fn ratio_text(ratio: Spread) -> String {
 
 fn table() -> Result<(), String> {
     let effort = Effort {
-        rounds: 31,
-        sample: 1_000_000.0,
+        rounds: 101,
+        sample: 200_000.0,
     };
     println!("| row | time for one | proved | twin | reference | proved / twin (10th to 90th percentile) | proved / reference |");
     println!("|---|---|---|---|---|---|---|");

@@ -33,6 +33,11 @@ pub const PROVED: usize = 0;
 pub const TWIN: usize = 1;
 pub const REFERENCE: usize = 2;
 
+/// A job at the start of a page, so that no side has luck with its place.
+#[repr(align(4096))]
+#[derive(Clone)]
+struct Paged<S>(S);
+
 /// A value that the compiler cannot foresee.
 fn hide<T: ?Sized>(item: &T) -> &T {
     let address: *const T = item;
@@ -59,17 +64,17 @@ fn shown<S: Side>(job: &S, answers: &[u8]) -> Vec<u8> {
     shown
 }
 
-fn accepted<S: Side>(plan: &[u8], log: &[u8]) -> Box<S> {
-    let (mut job, mut refusals) = (Box::new(S::blank()), 0);
-    assert_eq!(job.accept(plan), 0);
-    assert_eq!(job.run_log(log, &mut refusals), 0);
+fn accepted<S: Side>(plan: &[u8], log: &[u8]) -> Box<Paged<S>> {
+    let (mut job, mut refusals) = (Box::new(Paged(S::blank())), 0);
+    assert_eq!(job.0.accept(plan), 0);
+    assert_eq!(job.0.run_log(log, &mut refusals), 0);
     job
 }
 
 /// Plans are accepted, one after the other, into the same memory.
 struct Accepts<S> {
     plans: Vec<Vec<u8>>,
-    job: Box<S>,
+    job: Box<Paged<S>>,
     answers: Vec<u8>,
 }
 
@@ -77,18 +82,18 @@ impl<S: Side> Work for Accepts<S> {
     fn restore(&mut self) {}
     fn run(&mut self) {
         for (plan, answer) in self.plans.iter().zip(&mut self.answers) {
-            *answer = self.job.accept(plan);
+            *answer = self.job.0.accept(plan);
         }
     }
     fn outcome(&mut self) -> Vec<u8> {
-        shown(&*self.job, &self.answers)
+        shown(&self.job.0, &self.answers)
     }
 }
 
 /// The calls of a log, made one by one.
 struct Calls<S> {
-    saved: Box<S>,
-    job: Box<S>,
+    saved: Box<Paged<S>>,
+    job: Box<Paged<S>>,
     log: Vec<u8>,
     calls: Vec<(usize, usize)>,
     times: usize,
@@ -115,15 +120,15 @@ fn call_places(log: &[u8]) -> Vec<(usize, usize)> {
 
 impl<S: Side> Work for Calls<S> {
     fn restore(&mut self) {
-        (*self.job).clone_from(&self.saved);
+        self.job.0.clone_from(&self.saved.0);
     }
     fn run(&mut self) {
         for _ in 0..self.times {
             for &(start, count) in &self.calls {
                 let answer = if count == usize::MAX {
-                    self.job.grant(u64::from(self.log[start]))
+                    self.job.0.grant(u64::from(self.log[start]))
                 } else {
-                    self.job.tick(&self.log[start..start + count])
+                    self.job.0.tick(&self.log[start..start + count])
                 };
                 self.answers += u64::from(answer);
             }
@@ -131,58 +136,58 @@ impl<S: Side> Work for Calls<S> {
     }
     fn outcome(&mut self) -> Vec<u8> {
         assert_eq!(self.answers, 0, "no measured call is refused");
-        shown(&*self.job, &[])
+        shown(&self.job.0, &[])
     }
 }
 
 /// Grants of none, one on each of several jobs.
 struct Withdrawals<S> {
-    saved: Box<S>,
-    jobs: Vec<S>,
+    saved: Box<Paged<S>>,
+    jobs: Vec<Paged<S>>,
     answers: u64,
 }
 
 impl<S: Side> Work for Withdrawals<S> {
     fn restore(&mut self) {
         for job in &mut self.jobs {
-            job.clone_from(&self.saved);
+            job.0.clone_from(&self.saved.0);
         }
     }
     fn run(&mut self) {
         for job in &mut self.jobs {
-            self.answers += u64::from(job.grant(0));
+            self.answers += u64::from(job.0.grant(0));
         }
     }
     fn outcome(&mut self) -> Vec<u8> {
         assert_eq!(self.answers, 0, "no measured call is refused");
-        shown(&self.jobs[0], &[])
+        shown(&self.jobs[0].0, &[])
     }
 }
 
 /// A log is run.
 struct Replays<S> {
-    saved: Box<S>,
-    job: Box<S>,
+    saved: Box<Paged<S>>,
+    job: Box<Paged<S>>,
     log: Vec<u8>,
     refusals: u64,
 }
 
 impl<S: Side> Work for Replays<S> {
     fn restore(&mut self) {
-        (*self.job).clone_from(&self.saved);
+        self.job.0.clone_from(&self.saved.0);
     }
     fn run(&mut self) {
-        let answer = self.job.run_log(hide(&self.log), &mut self.refusals);
+        let answer = self.job.0.run_log(hide(&self.log), &mut self.refusals);
         assert_eq!(answer, 0);
     }
     fn outcome(&mut self) -> Vec<u8> {
-        shown(&*self.job, &self.refusals.to_be_bytes())
+        shown(&self.job.0, &self.refusals.to_be_bytes())
     }
 }
 
 /// The count line is written, many times.
 struct Lines<S> {
-    job: Box<S>,
+    job: Box<Paged<S>>,
     buffer: [u8; 128],
     size: usize,
 }
@@ -191,17 +196,17 @@ impl<S: Side> Work for Lines<S> {
     fn restore(&mut self) {}
     fn run(&mut self) {
         for _ in 0..REPEATS {
-            hide(&*self.job).line(12, &mut self.buffer, &mut self.size);
+            hide(&self.job.0).line(12, &mut self.buffer, &mut self.size);
         }
     }
     fn outcome(&mut self) -> Vec<u8> {
-        shown(&*self.job, &self.buffer[..self.size])
+        shown(&self.job.0, &self.buffer[..self.size])
     }
 }
 
 /// The label is looked for, many times.
 struct Labels<S> {
-    job: Box<S>,
+    job: Box<Paged<S>>,
     sheet: Vec<u8>,
     start: usize,
     size: usize,
@@ -211,11 +216,11 @@ impl<S: Side> Work for Labels<S> {
     fn restore(&mut self) {}
     fn run(&mut self) {
         for _ in 0..REPEATS {
-            hide(&*self.job).wording(hide(&self.sheet), &mut self.start, &mut self.size);
+            hide(&self.job.0).wording(hide(&self.sheet), &mut self.start, &mut self.size);
         }
     }
     fn outcome(&mut self) -> Vec<u8> {
-        shown(&*self.job, &self.sheet[self.start..self.start + self.size])
+        shown(&self.job.0, &self.sheet[self.start..self.start + self.size])
     }
 }
 
@@ -241,7 +246,7 @@ macro_rules! row {
 fn accepts<S: Side>(plans: &[Vec<u8>]) -> Accepts<S> {
     Accepts {
         plans: plans.to_vec(),
-        job: Box::new(S::blank()),
+        job: Box::new(Paged(S::blank())),
         answers: vec![0; plans.len()],
     }
 }

@@ -77,7 +77,7 @@ pub fn measure(row: &mut Row, effort: Effort) -> Measured {
     let mut runs = [0; 3];
     for (work, runs) in row.works.iter_mut().zip(&mut runs) {
         let once = sample(&mut **work, 5).max(1.0);
-        *runs = ((effort.sample / once) as usize).clamp(5, 1000);
+        *runs = ((effort.sample / once) as usize).clamp(3, 1000);
     }
     let mut times = [Vec::new(), Vec::new(), Vec::new()];
     for round in 0..effort.rounds {

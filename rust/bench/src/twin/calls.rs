@@ -1,6 +1,6 @@
 //! Grant, tick and log.
 
-use super::{Job, SIZES, WORKERS};
+use super::{Job, Numbers, Tables, SIZES, WORKERS};
 
 /// The largest power of R that is at most 64, for R = 2 to 7.
 const TOP_DESIRES: [u8; 6] = [64, 27, 64, 25, 36, 49];
@@ -10,41 +10,46 @@ impl Job {
     /// A grant of any number of workers; refused with 11 to 14.
     #[inline(never)]
     pub fn grant(&mut self, workers: u64) -> u8 {
-        self.grant_inline(workers)
+        self.numbers.grant(&mut self.tables, workers)
     }
 
     /// A tick with a choice for each granted worker; refused with 11 and 15 to 17.
     #[inline(never)]
     pub fn tick(&mut self, choices: &[u8]) -> u8 {
-        self.tick_inline(choices)
+        self.numbers.tick(&mut self.tables, choices)
     }
 
-    /// A log of any bytes; 18 where an entry is broken. `refusals` becomes the count of refused calls.
+    /// A log of any bytes; 18 where an entry is broken. `refusals` becomes the count of refused calls. The numbers are moved as a local
+    /// copy, which the compiler keeps in registers where it can.
     #[inline(never)]
     pub fn run_log(&mut self, log: &[u8], refusals: &mut u64) -> u8 {
+        let numbers = &mut self.numbers;
         let mut refused = 0;
         let mut rest = log;
+        let mut answer = 0;
         while let Some((&head, after)) = rest.split_first() {
             if head < 128 {
-                refused += u64::from(self.grant_inline(u64::from(head)) != 0);
+                refused += u64::from(numbers.grant(&mut self.tables, u64::from(head)) != 0);
                 rest = after;
                 continue;
             }
             let count = usize::from(head & 127);
             if count > after.len() {
-                *refusals = refused;
-                return 18;
+                answer = 18;
+                break;
             }
             let (choices, after) = after.split_at(count);
-            refused += u64::from(self.tick_inline(choices) != 0);
+            refused += u64::from(numbers.tick(&mut self.tables, choices) != 0);
             rest = after;
         }
         *refusals = refused;
-        0
+        answer
     }
+}
 
+impl Numbers {
     #[inline(always)]
-    fn grant_inline(&mut self, workers: u64) -> u8 {
+    fn grant(&mut self, tables: &mut Tables, workers: u64) -> u8 {
         if self.done == self.tasks {
             return 11;
         }
@@ -61,13 +66,13 @@ impl Job {
         let before = usize::from(self.workers);
         if granted < before {
             // SAFETY: `before` is at most 64.
-            unsafe { self.withdraw(granted, before) };
-        } else {
-            self.ends[SIZES + before..SIZES + granted].fill(0);
+            unsafe { self.withdraw(tables, granted, before) };
+        } else if granted > before {
+            tables.ends[SIZES + before..SIZES + granted].fill(0);
         }
         if !self.started && granted > 0 {
-            self.ends[0] = 0;
-            self.ends[SIZES] = 1;
+            tables.ends[0] = 0;
+            tables.ends[SIZES] = 1;
             self.started = true;
         }
         self.workers = granted as u8;
@@ -83,8 +88,8 @@ impl Job {
     /// # Safety
     /// `to` is at most 64.
     #[inline(always)]
-    unsafe fn withdraw(&mut self, from: usize, to: usize) {
-        let ends = self.ends.as_mut_ptr();
+    unsafe fn withdraw(&mut self, tables: &mut Tables, from: usize, to: usize) {
+        let ends = tables.ends.as_mut_ptr();
         let mut end = self.head + self.waiting;
         for worker in from..to {
             let size = *ends.add(SIZES + worker);
@@ -99,7 +104,7 @@ impl Job {
     }
 
     #[inline(always)]
-    fn tick_inline(&mut self, choices: &[u8]) -> u8 {
+    fn tick(&mut self, tables: &mut Tables, choices: &[u8]) -> u8 {
         if self.done == self.tasks {
             return 11;
         }
@@ -110,11 +115,13 @@ impl Job {
         if choices.len() != usize::from(workers) {
             return 16;
         }
-        if choices.iter().fold(false, |bad, &choice| bad | (choice >= workers)) {
-            return 17;
+        if workers != 0 {
+            if choices.iter().fold(false, |bad, &choice| bad | (choice >= workers)) {
+                return 17;
+            }
+            // SAFETY: there are at most 64 choices, each below the number of workers.
+            unsafe { self.cycles(tables, choices) };
         }
-        // SAFETY: there are at most 64 choices, each below the number of workers.
-        unsafe { self.cycles(choices) };
         self.ticks += 1;
         if self.ticks == self.quantum_length && self.done != self.tasks {
             self.close_quantum();
@@ -122,46 +129,66 @@ impl Job {
         0
     }
 
-    /// The workers' cycles. The counts of mug and steal cycles follow from the others at the end.
+    /// The workers' cycles. The counts of work, mug and steal cycles follow at the end from the tasks and the muggable deques that are left.
     ///
     /// # Safety
     /// There are at most 64 choices, each below the number of workers.
     #[inline(always)]
-    unsafe fn cycles(&mut self, choices: &[u8]) {
-        let ends = self.ends.as_mut_ptr();
-        let unworked = u64::from(self.tasks - self.done);
+    unsafe fn cycles(&mut self, tables: &mut Tables, choices: &[u8]) {
+        let mut unworked = u32::from(self.tasks - self.done);
         let (waiting, mut left) = (self.waiting, self.waiting);
-        let mut head = self.head;
-        let (mut works, mut successes, mut cycles) = (0, 0, choices.len() as u64);
-        for (worker, &choice) in choices.iter().enumerate() {
-            let size = *ends.add(SIZES + worker);
+        let (mut worker, mut successes) = (0, 0);
+        while worker != choices.len() {
+            let size = *tables.ends.get_unchecked(SIZES + worker);
             if size != 0 {
-                self.work(worker, size);
-                works += 1;
-                if works == unworked {
-                    cycles = worker as u64 + 1;
+                tables.work(worker, size);
+                unworked -= 1;
+                if unworked == 0 {
+                    worker += 1;
                     break;
                 }
             } else if left != 0 {
-                *ends.add(worker) = *ends.add(WORKERS + head);
-                *ends.add(SIZES + worker) = *ends.add(SIZES + WORKERS + head);
-                head = (head + 1) % WORKERS;
+                tables.mug(worker, (self.head + waiting - left) % WORKERS);
                 left -= 1;
             } else {
-                successes += self.steal(worker, usize::from(choice));
+                let victim = usize::from(*choices.get_unchecked(worker));
+                let size = *tables.ends.get_unchecked(SIZES + victim);
+                if size >= 2 {
+                    tables.steal(worker, victim, size);
+                    successes += 1;
+                }
             }
+            worker += 1;
         }
-        let mugs = (waiting - left) as u64;
-        self.head = head;
+        let works = u64::from(self.tasks - self.done) - u64::from(unworked);
+        let mugs = waiting - left;
+        self.head = (self.head + mugs) % WORKERS;
         self.waiting = left;
         self.done += works as u16;
         self.works += works;
-        self.mugs += mugs;
-        self.steals += cycles - works - mugs;
+        self.mugs += mugs as u64;
+        self.steals += worker as u64 - works - mugs as u64;
         self.successes += successes;
-        self.usage += works + mugs;
+        self.usage += works + mugs as u64;
     }
 
+    /// The quantum's end.
+    #[inline(always)]
+    fn close_quantum(&mut self) {
+        let owed = u64::from(self.utilization) * u64::from(self.quantum_length) * u64::from(self.workers);
+        if 100 * self.usage < owed {
+            self.desire /= self.responsiveness;
+        } else if self.workers == self.desire {
+            let top = TOP_DESIRES[usize::from(self.responsiveness) - 2];
+            if self.desire != top {
+                self.desire *= self.responsiveness;
+            }
+        }
+        self.is_open = false;
+    }
+}
+
+impl Tables {
     /// The front task of the worker's deque of this size is worked.
     ///
     /// # Safety
@@ -193,21 +220,29 @@ impl Job {
         let at = usize::from(task);
         let awaited = *self.pending.get_unchecked(at) - 1;
         *self.pending.get_unchecked_mut(at) = awaited;
+        if awaited != 0 {
+            return (front, size);
+        }
         *self.next.get_unchecked_mut(at) = front;
-        let ready = awaited == 0;
-        (if ready { task } else { front }, size + u16::from(ready))
+        (task, size + 1)
     }
 
-    /// The back task of a deque of two or more becomes the thief's deque. How many steals that were.
+    /// The oldest muggable deque becomes the worker's.
     ///
     /// # Safety
     /// Both are below 64.
     #[inline(always)]
-    unsafe fn steal(&mut self, thief: usize, victim: usize) -> u64 {
-        let size = *self.ends.get_unchecked(SIZES + victim);
-        if size < 2 {
-            return 0;
-        }
+    unsafe fn mug(&mut self, worker: usize, head: usize) {
+        *self.ends.get_unchecked_mut(worker) = *self.ends.get_unchecked(WORKERS + head);
+        *self.ends.get_unchecked_mut(SIZES + worker) = *self.ends.get_unchecked(SIZES + WORKERS + head);
+    }
+
+    /// The back task of a deque of this size, two or more, becomes the thief's deque.
+    ///
+    /// # Safety
+    /// Both are below 64.
+    #[inline(always)]
+    unsafe fn steal(&mut self, thief: usize, victim: usize, size: u16) {
         let mut task = *self.ends.get_unchecked(victim);
         for _ in 1..size {
             task = *self.next.get_unchecked(usize::from(task));
@@ -215,21 +250,5 @@ impl Job {
         *self.ends.get_unchecked_mut(SIZES + victim) = size - 1;
         *self.ends.get_unchecked_mut(thief) = task;
         *self.ends.get_unchecked_mut(SIZES + thief) = 1;
-        1
-    }
-
-    /// The quantum's end.
-    #[inline(always)]
-    fn close_quantum(&mut self) {
-        let owed = u64::from(self.utilization) * u64::from(self.quantum_length) * u64::from(self.workers);
-        if 100 * self.usage < owed {
-            self.desire /= self.responsiveness;
-        } else if self.workers == self.desire {
-            let top = TOP_DESIRES[usize::from(self.responsiveness) - 2];
-            if self.desire != top {
-                self.desire *= self.responsiveness;
-            }
-        }
-        self.is_open = false;
     }
 }

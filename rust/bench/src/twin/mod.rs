@@ -22,11 +22,23 @@ const SIZES: usize = 128;
 #[repr(C)]
 #[derive(Clone)]
 pub struct Job {
+    tables: Tables,
+    numbers: Numbers,
+}
+
+#[repr(C)]
+#[derive(Clone)]
+struct Tables {
     first: [u16; MOST_TASKS],
     second: [u16; MOST_TASKS],
     pending: [u8; MOST_TASKS],
     next: [u16; MOST_TASKS],
     ends: [u16; 256],
+}
+
+#[repr(C)]
+#[derive(Clone, Copy, Default)]
+struct Numbers {
     works: u64,
     mugs: u64,
     steals: u64,
@@ -68,63 +80,51 @@ impl Job {
     /// Memory for a job, which is none until a plan is accepted. Every call but acceptance is refused, as for a finished job.
     pub fn blank() -> Job {
         Job {
-            first: [0; MOST_TASKS],
-            second: [0; MOST_TASKS],
-            pending: [0; MOST_TASKS],
-            next: [0; MOST_TASKS],
-            ends: [0; 256],
-            works: 0,
-            mugs: 0,
-            steals: 0,
-            successes: 0,
-            usage: 0,
-            head: 0,
-            waiting: 0,
-            tasks: 0,
-            done: 0,
-            quantum_length: 0,
-            ticks: 0,
-            begun: 0,
-            workers: 0,
-            responsiveness: 0,
-            utilization: 0,
-            desire: 0,
-            started: false,
-            is_open: false,
+            tables: Tables {
+                first: [0; MOST_TASKS],
+                second: [0; MOST_TASKS],
+                pending: [0; MOST_TASKS],
+                next: [0; MOST_TASKS],
+                ends: [0; 256],
+            },
+            numbers: Numbers::default(),
         }
     }
 
     /// The tasks of the deque at a place, front first.
     fn deque(&self, place: usize) -> Vec<u16> {
-        let mut task = self.ends[place];
+        let mut task = self.tables.ends[place];
         let mut tasks = Vec::new();
-        for _ in 0..self.ends[SIZES + place] {
+        for _ in 0..self.tables.ends[SIZES + place] {
             tasks.push(task);
-            task = self.next[usize::from(task)];
+            task = self.tables.next[usize::from(task)];
         }
         tasks
     }
 
     /// What the job shows.
     pub fn view(&self) -> View {
-        let ring = |age| WORKERS + (self.head + age) % WORKERS;
-        let tasks = usize::from(self.tasks);
+        let numbers = &self.numbers;
+        let ring = |age| WORKERS + (numbers.head + age) % WORKERS;
+        let tasks = usize::from(numbers.tasks);
         View {
-            worked: self.pending[..tasks].iter().map(|&p| p == 3).collect(),
-            deques: (0..usize::from(self.workers)).map(|w| self.deque(w)).collect(),
-            muggable: (0..self.waiting).map(|age| self.deque(ring(age))).collect(),
-            desire: usize::from(self.desire),
-            open_quantum: if self.is_open { Some((u32::from(self.ticks), self.usage)) } else { None },
-            quanta_begun: u32::from(self.begun),
+            worked: self.tables.pending[..tasks].iter().map(|&p| p == 3).collect(),
+            deques: (0..usize::from(numbers.workers)).map(|w| self.deque(w)).collect(),
+            muggable: (0..numbers.waiting).map(|age| self.deque(ring(age))).collect(),
+            desire: usize::from(numbers.desire),
+            open_quantum: if numbers.is_open { Some((u32::from(numbers.ticks), numbers.usage)) } else { None },
+            quanta_begun: u32::from(numbers.begun),
         }
     }
 
     /// The status: 3 finished, 0 never granted, 2 held, 1 running.
     #[inline(never)]
     pub fn status(&self) -> u8 {
-        self.status_number()
+        self.numbers.status_number()
     }
+}
 
+impl Numbers {
     #[inline(always)]
     fn status_number(&self) -> u8 {
         if self.done == self.tasks {

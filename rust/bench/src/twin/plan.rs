@@ -2,7 +2,7 @@
 
 use std::mem::MaybeUninit;
 
-use super::{Job, MOST_TASKS};
+use super::{Job, Numbers, MOST_TASKS};
 
 const HEADER_BYTES: usize = 5;
 const TASK_BYTES: usize = 3;
@@ -145,31 +145,22 @@ impl Job {
         let first = std::slice::from_raw_parts(std::ptr::addr_of!((*scratch).first) as *const u16, tasks);
         let second = std::slice::from_raw_parts(std::ptr::addr_of!((*scratch).second) as *const u16, tasks);
         let counts = std::slice::from_raw_parts(std::ptr::addr_of!((*scratch).predecessors) as *const u16, tasks);
-        self.first[..tasks].copy_from_slice(first);
-        self.first[tasks..].fill(0);
-        self.second[..tasks].copy_from_slice(second);
-        self.second[tasks..].fill(0);
-        self.pending[..tasks].iter_mut().zip(counts).for_each(|(p, &c)| *p = c as u8);
-        self.pending[tasks..].fill(0);
-        self.next.fill(0);
-        self.ends.fill(0);
-        self.works = 0;
-        self.mugs = 0;
-        self.steals = 0;
-        self.successes = 0;
-        self.usage = 0;
-        self.head = 0;
-        self.waiting = 0;
-        self.tasks = tasks as u16;
-        self.done = 0;
-        self.quantum_length = header.quantum_length;
-        self.ticks = 0;
-        self.begun = 0;
-        self.workers = 0;
-        self.responsiveness = header.responsiveness;
-        self.utilization = header.utilization;
-        self.desire = 1;
-        self.started = false;
-        self.is_open = false;
+        let tables = &mut self.tables;
+        tables.first[..tasks].copy_from_slice(first);
+        tables.first[tasks..].fill(0);
+        tables.second[..tasks].copy_from_slice(second);
+        tables.second[tasks..].fill(0);
+        tables.pending[..tasks].iter_mut().zip(counts).for_each(|(p, &c)| *p = c as u8);
+        tables.pending[tasks..].fill(0);
+        tables.next.fill(0);
+        tables.ends.fill(0);
+        self.numbers = Numbers {
+            tasks: tasks as u16,
+            quantum_length: header.quantum_length,
+            responsiveness: header.responsiveness,
+            utilization: header.utilization,
+            desire: 1,
+            ..Numbers::default()
+        };
     }
 }

@@ -116,7 +116,7 @@ impl Job {
     /// Where the wording of the job's status starts in the sheet, and its size; 19 where the sheet has no such line.
     #[inline(never)]
     pub fn wording(&self, sheet: &[u8], start: &mut usize, size: &mut usize) -> u8 {
-        match find_line(sheet, self.status_number()) {
+        match find_line(sheet, self.numbers.status_number()) {
             Some((from, end)) => {
                 *start = from;
                 *size = end - from;
@@ -140,15 +140,15 @@ impl Job {
         let start = buffer.as_mut_ptr();
         // SAFETY: the first five numbers have at most 1, 4, 4, 2 and 2 digits and the others 20, so with a byte after each it is 123 bytes.
         unsafe {
-            let at = put(start, u64::from(self.status_number()), b' ');
-            let at = put(at, u64::from(self.done), b' ');
-            let at = put(at, u64::from(self.tasks), b' ');
-            let at = put(at, u64::from(self.desire), b' ');
-            let at = put(at, u64::from(self.workers), b' ');
-            let at = put(at, self.works, b' ');
-            let at = put(at, self.mugs, b' ');
-            let at = put(at, self.steals, b' ');
-            let at = put(at, self.successes, b' ');
+            let at = put(start, u64::from(self.numbers.status_number()), b' ');
+            let at = put(at, u64::from(self.numbers.done), b' ');
+            let at = put(at, u64::from(self.numbers.tasks), b' ');
+            let at = put(at, u64::from(self.numbers.desire), b' ');
+            let at = put(at, u64::from(self.numbers.workers), b' ');
+            let at = put(at, self.numbers.works, b' ');
+            let at = put(at, self.numbers.mugs, b' ');
+            let at = put(at, self.numbers.steals, b' ');
+            let at = put(at, self.numbers.successes, b' ');
             let at = put(at, refusals, b'\n');
             *size = at.offset_from(start) as usize;
         }
