@@ -1,10 +1,12 @@
-//! The benchmark. `bench` prints the table, `bench quick` only tries that every row runs and the sides agree, `bench growth DIRECTORY`
-//! prints how costs grow and draws it, `bench names` and `bench one ROW SIDE COUNT` serve the counting of instructions.
+//! The benchmark. `bench` prints the table; `bench growth DIRECTORY` prints how costs grow, and draws it; `bench quick` only tries that every
+//! row runs and the sides agree. `bench samples SET` is one process of a measurement; `bench names` and `bench one ROW SIDE COUNT` serve the
+//! counting of instructions.
 
 mod growth;
 mod inputs;
 mod memory;
 mod plot;
+mod processes;
 mod proved;
 mod rows;
 mod sides;
@@ -14,9 +16,9 @@ use std::env;
 use std::process::ExitCode;
 
 use rows::{Row, PROVED, REFERENCE, SIDES, TWIN};
-use timing::{agree, bench_timed_part, measure, Effort, Spread};
+use timing::{agree, bench_timed_part, ratio, spread, Spread};
 
-const USAGE: &str = "usage: bench [table | quick | growth DIRECTORY | names | one ROW SIDE COUNT]";
+const USAGE: &str = "usage: bench [table | growth DIRECTORY | quick | samples SET | names | one ROW SIDE COUNT]";
 
 fn main() -> ExitCode {
     let arguments: Vec<String> = env::args().skip(1).collect();
@@ -25,6 +27,7 @@ fn main() -> ExitCode {
         [] | ["table"] => table(),
         ["quick"] => quick(),
         ["growth", directory] => growth::print(directory),
+        ["samples", set] => processes::print_samples(set),
         ["names"] => names(),
         ["one", row, side, count] => one(row, side, count),
         _ => Err(USAGE.into()),
@@ -54,17 +57,10 @@ fn ratio_text(ratio: Spread) -> String {
 }
 
 fn table() -> Result<(), String> {
-    let effort = Effort {
-        rounds: 101,
-        sample: 200_000.0,
-    };
-    println!("| row | time for one | proved | twin | reference | proved / twin (10th to 90th percentile) | proved / reference |");
+    println!("| row | one | proved | twin | reference | proved / twin | proved / reference |");
     println!("|---|---|---|---|---|---|---|");
-    for mut row in rows::table() {
-        agree(&mut row);
-        let measured = measure(&mut row, effort);
-        let time = |side: usize| time_text(measured.times[side].middle);
-        let (twin, reference) = (ratio_text(measured.ratios[TWIN]), measured.ratios[REFERENCE].middle);
+    for row in processes::measured("table")? {
+        let time = |side: usize| time_text(spread(row.rounds[side].clone()).middle);
         println!(
             "| {} | {} | {} | {} | {} | {} | {:.2} |",
             row.name,
@@ -72,33 +68,27 @@ fn table() -> Result<(), String> {
             time(PROVED),
             time(TWIN),
             time(REFERENCE),
-            twin,
-            reference
+            ratio_text(ratio(&row.rounds, PROVED, TWIN)),
+            ratio(&row.rounds, PROVED, REFERENCE).middle
         );
     }
     let bytes = memory::per_job();
-    println!("| memory | job of 1,024 tasks | {} bytes | {} bytes | {} bytes | {:.2} | {:.2} |",
+    let part = |side: usize| bytes[PROVED] as f64 / bytes[side] as f64;
+    println!(
+        "| memory | job of 1,024 tasks | {} bytes | {} bytes | {} bytes | {:.2} | {:.2} |",
         bytes[PROVED],
         bytes[TWIN],
         bytes[REFERENCE],
-        bytes[PROVED] as f64 / bytes[TWIN] as f64,
-        bytes[PROVED] as f64 / bytes[REFERENCE] as f64
+        part(TWIN),
+        part(REFERENCE)
     );
     Ok(())
 }
 
 fn quick() -> Result<(), String> {
-    let effort = Effort {
-        rounds: 1,
-        sample: 1.0,
-    };
     let mut tried = 0;
-    for mut row in rows::table() {
+    for mut row in rows::table().into_iter().chain(rows::growth()) {
         agree(&mut row);
-        let measured = measure(&mut row, effort);
-        if measured.times.iter().any(|time| time.middle.is_nan()) {
-            return Err(format!("row {} has no time", row.name));
-        }
         tried += 1;
     }
     println!("benchmark: {} rows run, the sides agree", tried);

@@ -33,10 +33,10 @@ pub const PROVED: usize = 0;
 pub const TWIN: usize = 1;
 pub const REFERENCE: usize = 2;
 
-/// A job at the start of a page, so that no side has luck with its place.
-#[repr(align(4096))]
+/// A job at the start of a cache line, so that no side has luck with its place.
+#[repr(align(64))]
 #[derive(Clone)]
-struct Paged<S>(S);
+struct Lined<S>(S);
 
 /// A value that the compiler cannot foresee.
 fn hide<T: ?Sized>(item: &T) -> &T {
@@ -60,12 +60,12 @@ fn shown<S: Side>(job: &S, answers: &[u8]) -> Vec<u8> {
         job.line(refusals, &mut buffer, &mut size);
         shown.extend_from_slice(&buffer[..size]);
     }
-    shown.push(number);
+    shown.extend([number, job.status(), later.status()]);
     shown
 }
 
-fn accepted<S: Side>(plan: &[u8], log: &[u8]) -> Box<Paged<S>> {
-    let (mut job, mut refusals) = (Box::new(Paged(S::blank())), 0);
+fn accepted<S: Side>(plan: &[u8], log: &[u8]) -> Box<Lined<S>> {
+    let (mut job, mut refusals) = (Box::new(Lined(S::blank())), 0);
     assert_eq!(job.0.accept(plan), 0);
     assert_eq!(job.0.run_log(log, &mut refusals), 0);
     job
@@ -74,7 +74,7 @@ fn accepted<S: Side>(plan: &[u8], log: &[u8]) -> Box<Paged<S>> {
 /// Plans are accepted, one after the other, into the same memory.
 struct Accepts<S> {
     plans: Vec<Vec<u8>>,
-    job: Box<Paged<S>>,
+    job: Box<Lined<S>>,
     answers: Vec<u8>,
 }
 
@@ -92,8 +92,8 @@ impl<S: Side> Work for Accepts<S> {
 
 /// The calls of a log, made one by one.
 struct Calls<S> {
-    saved: Box<Paged<S>>,
-    job: Box<Paged<S>>,
+    saved: Box<Lined<S>>,
+    job: Box<Lined<S>>,
     log: Vec<u8>,
     calls: Vec<(usize, usize)>,
     times: usize,
@@ -142,8 +142,8 @@ impl<S: Side> Work for Calls<S> {
 
 /// Grants of none, one on each of several jobs.
 struct Withdrawals<S> {
-    saved: Box<Paged<S>>,
-    jobs: Vec<Paged<S>>,
+    saved: Box<Lined<S>>,
+    jobs: Vec<Lined<S>>,
     answers: u64,
 }
 
@@ -166,8 +166,8 @@ impl<S: Side> Work for Withdrawals<S> {
 
 /// A log is run.
 struct Replays<S> {
-    saved: Box<Paged<S>>,
-    job: Box<Paged<S>>,
+    saved: Box<Lined<S>>,
+    job: Box<Lined<S>>,
     log: Vec<u8>,
     refusals: u64,
 }
@@ -187,7 +187,7 @@ impl<S: Side> Work for Replays<S> {
 
 /// The count line is written, many times.
 struct Lines<S> {
-    job: Box<Paged<S>>,
+    job: Box<Lined<S>>,
     buffer: [u8; 128],
     size: usize,
 }
@@ -206,7 +206,7 @@ impl<S: Side> Work for Lines<S> {
 
 /// The label is looked for, many times.
 struct Labels<S> {
-    job: Box<Paged<S>>,
+    job: Box<Lined<S>>,
     sheet: Vec<u8>,
     start: usize,
     size: usize,
@@ -246,7 +246,7 @@ macro_rules! row {
 fn accepts<S: Side>(plans: &[Vec<u8>]) -> Accepts<S> {
     Accepts {
         plans: plans.to_vec(),
-        job: Box::new(Paged(S::blank())),
+        job: Box::new(Lined(S::blank())),
         answers: vec![0; plans.len()],
     }
 }
@@ -338,4 +338,14 @@ pub fn table() -> Vec<Row> {
         replay("replay-64", &inputs::wide_log()),
         replay("replay-short", &inputs::short_log()),
     ]
+}
+
+/// The rows that show how costs grow: with the number of tasks, and with the number of workers.
+pub fn growth() -> Vec<Row> {
+    let powers = |most: u32| (0..=most).map(|power| 1usize << power);
+    let accept = powers(10).map(|tasks| acceptances(&format!("accept {}", tasks), tasks));
+    let run = powers(10).map(|tasks| replay(&format!("run {}", tasks), &inputs::whole_run(tasks)));
+    let work = powers(6).map(|workers| ticks(&format!("work {}", workers), &inputs::working(workers)));
+    let steal = powers(6).map(|workers| ticks(&format!("vain {}", workers), &inputs::in_vain(workers)));
+    accept.chain(run).chain(work).chain(steal).collect()
 }

@@ -15,7 +15,8 @@ pub struct Spread {
 /// The 10th, 50th and 90th percentile.
 pub fn spread(mut values: Vec<f64>) -> Spread {
     values.sort_by(f64::total_cmp);
-    let at = |part: usize| values.get((values.len() - 1) * part / 100).copied().unwrap_or(f64::NAN);
+    let last = values.len().saturating_sub(1);
+    let at = |part: usize| values.get(last * part / 100).copied().unwrap_or(f64::NAN);
     Spread {
         low: at(10),
         middle: at(50),
@@ -23,21 +24,11 @@ pub fn spread(mut values: Vec<f64>) -> Spread {
     }
 }
 
-/// How much is measured.
-#[derive(Clone, Copy)]
-pub struct Effort {
-    pub rounds: usize,
-    /// Nanoseconds that a sample takes, about.
-    pub sample: f64,
-}
+/// Nanoseconds an operation in each round, by side.
+pub type Rounds = [Vec<f64>; 3];
 
-/// What was measured of a row.
-pub struct Measured {
-    /// Nanoseconds an operation, by side.
-    pub times: [Spread; 3],
-    /// The proved side's time by another side's, in the same round.
-    pub ratios: [Spread; 3],
-}
+/// About how many nanoseconds a sample takes.
+const SAMPLE: f64 = 200_000.0;
 
 /// The measured part. Its name is known to the counting of instructions, which counts in here only.
 #[no_mangle]
@@ -73,23 +64,24 @@ pub fn agree(row: &mut Row) {
 }
 
 /// Measures a row: in each round a sample of every side, by turns, beginning with another side each time.
-pub fn measure(row: &mut Row, effort: Effort) -> Measured {
+pub fn measure(row: &mut Row, rounds: usize) -> Rounds {
     let mut runs = [0; 3];
     for (work, runs) in row.works.iter_mut().zip(&mut runs) {
         let once = sample(&mut **work, 5).max(1.0);
-        *runs = ((effort.sample / once) as usize).clamp(3, 1000);
+        *runs = ((SAMPLE / once) as usize).clamp(3, 1000);
     }
-    let mut times = [Vec::new(), Vec::new(), Vec::new()];
-    for round in 0..effort.rounds {
+    let mut times = Rounds::default();
+    for round in 0..rounds {
         for turn in 0..SIDES.len() {
             let side = (round + turn) % SIDES.len();
             let time = sample(&mut *row.works[side], runs[side]);
             times[side].push(time / row.operations as f64);
         }
     }
-    let ratio = |other: &Vec<f64>| spread(times[0].iter().zip(other).map(|(proved, other)| proved / other).collect());
-    Measured {
-        ratios: [ratio(&times[0]), ratio(&times[1]), ratio(&times[2])],
-        times: times.clone().map(spread),
-    }
+    times
+}
+
+/// The times of one side by those of another, round by round.
+pub fn ratio(rounds: &Rounds, side: usize, by: usize) -> Spread {
+    spread(rounds[side].iter().zip(&rounds[by]).map(|(one, other)| one / other).collect())
 }

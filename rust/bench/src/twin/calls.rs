@@ -19,17 +19,14 @@ impl Job {
         self.numbers.tick(&mut self.tables, choices)
     }
 
-    /// A log of any bytes; 18 where an entry is broken. `refusals` becomes the count of refused calls. The numbers are moved as a local
-    /// copy, which the compiler keeps in registers where it can.
+    /// A log of any bytes; 18 where an entry is broken. `refusals` becomes the count of refused calls.
     #[inline(never)]
     pub fn run_log(&mut self, log: &[u8], refusals: &mut u64) -> u8 {
-        let numbers = &mut self.numbers;
-        let mut refused = 0;
-        let mut rest = log;
-        let mut answer = 0;
+        let (tables, numbers) = (&mut self.tables, &mut self.numbers);
+        let (mut refused, mut rest, mut answer) = (0, log, 0);
         while let Some((&head, after)) = rest.split_first() {
             if head < 128 {
-                refused += u64::from(numbers.grant(&mut self.tables, u64::from(head)) != 0);
+                refused += u64::from(numbers.grant(tables, u64::from(head)) != 0);
                 rest = after;
                 continue;
             }
@@ -39,7 +36,7 @@ impl Job {
                 break;
             }
             let (choices, after) = after.split_at(count);
-            refused += u64::from(numbers.tick(&mut self.tables, choices) != 0);
+            refused += u64::from(numbers.tick(tables, choices) != 0);
             rest = after;
         }
         *refusals = refused;
@@ -220,11 +217,9 @@ impl Tables {
         let at = usize::from(task);
         let awaited = *self.pending.get_unchecked(at) - 1;
         *self.pending.get_unchecked_mut(at) = awaited;
-        if awaited != 0 {
-            return (front, size);
-        }
         *self.next.get_unchecked_mut(at) = front;
-        (task, size + 1)
+        let ready = awaited == 0;
+        (if ready { task } else { front }, size + u16::from(ready))
     }
 
     /// The oldest muggable deque becomes the worker's.
