@@ -4,7 +4,7 @@ use reference::generator::graph::{graph, Graph, Shape, MOST_TASKS};
 use reference::generator::logs::Writer;
 use reference::generator::plans::Draft;
 use reference::generator::Random;
-use reference::Job;
+use reference::{run_log, Job};
 
 /// A plan, the log that brings its job to the measured state, and the calls that are measured, as a log too.
 pub struct Scene {
@@ -106,13 +106,25 @@ fn spreading(workers: usize) -> Vec<u8> {
     (0..workers).map(|worker| halved(worker) as u8).collect()
 }
 
-/// Grants the desire and ticks to the quantum's end.
-fn quantum(writer: &mut Writer, choices: impl Fn(usize) -> Vec<u8>) {
-    let workers = writer.job.desire();
+/// Grants the desire, up to so many, and ticks to the quantum's end.
+fn quantum(writer: &mut Writer, most: usize, choices: impl Fn(usize) -> Vec<u8>) {
+    let workers = writer.job.desire().min(most);
     writer.grant(workers);
     for _ in 0..writer.job.plan().quantum_length() {
         writer.tick(&choices(workers));
     }
+}
+
+/// The work, mug and steal cycles of a scene's measured calls.
+fn cycles(scene: &Scene) -> (usize, usize, usize) {
+    let mut job = Job::accept(&scene.plan).expect("the benchmark's plans are sound");
+    let counts = |job: &Job| [job.work_cycles(), job.mug_cycles(), job.steal_cycles()];
+    run_log(&mut job, &scene.before);
+    let before = counts(&job);
+    run_log(&mut job, &scene.timed);
+    let after = counts(&job);
+    let more = |kind: usize| (after[kind] - before[kind]) as usize;
+    (more(0), more(1), more(2))
 }
 
 /// The log so far, and the rest of it from now on.
@@ -131,7 +143,9 @@ pub fn working(workers: usize) -> Scene {
     let (_, end) = chain(&mut graph, quanta * length + 1);
     let (root, _) = tree(&mut graph, workers, Leaf::Chain(leaf(length)));
     edge(&mut graph, end, root);
-    two_quanta(plan_bytes(&graph, responsiveness, length), quanta)
+    let scene = two_quanta(plan_bytes(&graph, responsiveness, length), quanta, workers);
+    assert_eq!(cycles(&scene), (length * workers, 0, 0), "every worker works");
+    scene
 }
 
 /// 32 workers are on a comb each, and 32 steal its teeth: a steal that succeeds in every second tick of a thief.
@@ -140,16 +154,17 @@ pub fn thieves() -> Scene {
     let (_, end) = chain(&mut graph, 3 * 6 + 1);
     let (root, _) = tree(&mut graph, 32, Leaf::Comb(10));
     edge(&mut graph, end, root);
-    two_quanta(plan_bytes(&graph, 4, 6), 3)
+    let scene = two_quanta(plan_bytes(&graph, 4, 6), 3, 64);
+    assert_eq!(cycles(&scene), (6 * 64 - 3 * 32, 0, 3 * 32), "32 steal in every second tick");
+    scene
 }
 
 /// The desire rises, the tree spreads in one quantum, and the next one is measured; its grant is not.
-fn two_quanta(plan: Vec<u8>, quanta: usize) -> Scene {
+fn two_quanta(plan: Vec<u8>, quanta: usize, workers: usize) -> Scene {
     let mut writer = writer(&plan);
     for _ in 0..=quanta {
-        quantum(&mut writer, spreading);
+        quantum(&mut writer, workers, spreading);
     }
-    let workers = writer.job.desire();
     writer.grant(workers);
     let before = cut(&mut writer);
     for _ in 0..writer.job.plan().quantum_length() {
@@ -172,7 +187,7 @@ pub fn in_vain(workers: usize) -> Scene {
     let plan = plan_bytes(&graph, responsiveness, length);
     let mut writer = writer(&plan);
     for _ in 0..quanta {
-        quantum(&mut writer, |workers| vec![0; workers]);
+        quantum(&mut writer, workers, |workers| vec![0; workers]);
     }
     writer.grant(workers);
     let before = cut(&mut writer);
@@ -180,11 +195,13 @@ pub fn in_vain(workers: usize) -> Scene {
         let choices: Vec<u8> = (0..workers).map(|_| random.below(workers) as u8).collect();
         writer.tick(&choices);
     }
-    Scene {
+    let scene = Scene {
         plan,
         before,
         timed: writer.bytes,
-    }
+    };
+    assert_eq!(cycles(&scene), (length, 0, length * (workers - 1)), "one works");
+    scene
 }
 
 /// One tick in which 63 workers steal from the same deque of 300 tasks.
@@ -194,16 +211,18 @@ pub fn long_deque() -> Scene {
     let plan = plan_bytes(&graph, 4, 100);
     let mut writer = writer(&plan);
     for _ in 0..3 {
-        quantum(&mut writer, |workers| (0..workers as u8).collect());
+        quantum(&mut writer, 64, |workers| (0..workers as u8).collect());
     }
     writer.grant(64);
     let before = cut(&mut writer);
     writer.tick(&[0; 64]);
-    Scene {
+    let scene = Scene {
         plan,
         before,
         timed: writer.bytes,
-    }
+    };
+    assert_eq!(cycles(&scene), (1, 0, 63), "one works");
+    scene
 }
 
 /// Quanta of one tick, and 64 deques that are not empty. Measured: 64 workers are withdrawn, a tick of none, 64 workers are granted, and
@@ -216,17 +235,19 @@ pub fn withdrawn() -> Scene {
     let plan = plan_bytes(&graph, 4, 1);
     let mut writer = writer(&plan);
     while writer.job.deques().len() < 64 || writer.job.deques().iter().any(|deque| deque.is_empty()) {
-        quantum(&mut writer, spreading);
+        quantum(&mut writer, 64, spreading);
     }
     let before = cut(&mut writer);
     writer.grant(0);
     writer.tick(&[]);
-    quantum(&mut writer, |workers| vec![0; workers]);
-    Scene {
+    quantum(&mut writer, 64, |workers| vec![0; workers]);
+    let scene = Scene {
         plan,
         before,
         timed: writer.bytes,
-    }
+    };
+    assert_eq!(cycles(&scene), (0, 64, 0), "every deque is taken back");
+    scene
 }
 
 /// Plans of so many tasks: chains, combs, fork-joins and layers, with one and two successors in any order.
@@ -283,7 +304,7 @@ pub fn wide_log() -> Scene {
     while writer.bytes.len() + 1 + 10 * 65 <= LOG_BYTES {
         let workers = writer.job.desire();
         let choices: Vec<u8> = (0..workers).map(|_| random.below(workers) as u8).collect();
-        quantum(&mut writer, |_| choices.clone());
+        quantum(&mut writer, 64, |_| choices.clone());
     }
     Scene {
         plan,
