@@ -132,39 +132,37 @@ impl Numbers {
     /// There are at most 64 choices, each below the number of workers.
     #[inline(always)]
     unsafe fn cycles(&mut self, tables: &mut Tables, choices: &[u8]) {
-        let mut unworked = u32::from(self.tasks - self.done);
+        let unworked = u64::from(self.tasks - self.done);
         let (waiting, mut left) = (self.waiting, self.waiting);
-        let (mut worker, mut successes) = (0, 0);
-        while worker != choices.len() {
+        let (mut works, mut successes, mut cycles) = (0, 0, choices.len());
+        for (worker, &choice) in choices.iter().enumerate() {
             let size = *tables.ends.get_unchecked(SIZES + worker);
             if size != 0 {
                 tables.work(worker, size);
-                unworked -= 1;
-                if unworked == 0 {
-                    worker += 1;
+                works += 1;
+                if works == unworked {
+                    cycles = worker + 1;
                     break;
                 }
             } else if left != 0 {
                 tables.mug(worker, (self.head + waiting - left) % WORKERS);
                 left -= 1;
             } else {
-                let victim = usize::from(*choices.get_unchecked(worker));
+                let victim = usize::from(choice);
                 let size = *tables.ends.get_unchecked(SIZES + victim);
                 if size >= 2 {
                     tables.steal(worker, victim, size);
                     successes += 1;
                 }
             }
-            worker += 1;
         }
-        let works = u64::from(self.tasks - self.done) - u64::from(unworked);
         let mugs = waiting - left;
         self.head = (self.head + mugs) % WORKERS;
         self.waiting = left;
         self.done += works as u16;
         self.works += works;
         self.mugs += mugs as u64;
-        self.steals += worker as u64 - works - mugs as u64;
+        self.steals += cycles as u64 - works - mugs as u64;
         self.successes += successes;
         self.usage += works + mugs as u64;
     }
