@@ -16,12 +16,15 @@ struct Header {
     tasks: usize,
 }
 
-/// A plan's graph as it is read. Only the first `tasks` items are there.
+/// A plan's graph as it is read. Only the first `tasks` items are there. Behind the counts of predecessors is room where unused fields are
+/// counted, in turn at several places: counting at one place only would make each count wait for the last one.
 struct Scratch {
     first: [u16; MOST_TASKS],
     second: [u16; MOST_TASKS],
-    predecessors: [u16; MOST_TASKS],
+    predecessors: [u16; MOST_TASKS + UNUSED],
 }
+
+const UNUSED: usize = 16;
 
 /// Questions 1 to 6.
 #[inline(always)]
@@ -69,7 +72,7 @@ fn task_refusal(word: usize, task: usize, tasks: usize) -> u8 {
 /// Reads the tasks in rising order. Question 7 or 8 where the answer is no, else how many tasks have no successor.
 ///
 /// # Safety
-/// The plan has the bytes of so many tasks, at most 1,024; the scratch's `predecessors` are there and 0.
+/// The plan has the bytes of so many tasks, at most 1,024; the scratch's `predecessors` are 0.
 #[inline(always)]
 unsafe fn read_tasks(plan: &[u8], tasks: usize, scratch: *mut Scratch) -> Result<usize, u8> {
     let first_of = std::ptr::addr_of_mut!((*scratch).first) as *mut u16;
@@ -82,10 +85,12 @@ unsafe fn read_tasks(plan: &[u8], tasks: usize, scratch: *mut Scratch) -> Result
         let word = u32::from_be_bytes(from.read_unaligned()) as usize & 0xff_ffff;
         from = (from as *const u8).add(TASK_BYTES) as *const [u8; 4];
         let (count, first, second) = (word >> 22, word >> 11 & 0x7ff, word & 0x7ff);
-        let room = tasks - task - 1;
-        let in_range = |s: usize| s.wrapping_sub(task + 1) < room;
-        let second_fits = if count == 2 { in_range(second) & (second != first) } else { second == 0 };
-        if !((count.wrapping_sub(1) < 2) & in_range(first) & second_fits) {
+        let (low, room) = (task + 1, tasks - task - 1);
+        // all ones where the second field is used; it lies from `low` up then, and is 0 else
+        let used = (count >> 1).wrapping_neg();
+        let first_fits = first.wrapping_sub(low) < room;
+        let second_fits = second.wrapping_sub(low & used) < (room.wrapping_sub(1) & used) + 1;
+        if !((count.wrapping_sub(1) < 2) & first_fits & second_fits & (first != second)) {
             let number = task_refusal(word, task, tasks);
             if number != 0 {
                 return Err(number);
@@ -94,9 +99,8 @@ unsafe fn read_tasks(plan: &[u8], tasks: usize, scratch: *mut Scratch) -> Result
         }
         first_of.add(task).write(first as u16);
         second_of.add(task).write(second as u16);
-        // an unused field counts for task 0, whose count is not used
         *predecessors.add(first) += 1;
-        *predecessors.add(second) += 1;
+        *predecessors.add(second | (MOST_TASKS + task % UNUSED) & !used) += 1;
     }
     Ok(loose)
 }
@@ -112,11 +116,11 @@ impl Job {
         let tasks = header.tasks;
         let mut scratch = MaybeUninit::<Scratch>::uninit();
         let scratch = scratch.as_mut_ptr();
-        // SAFETY: the header's questions give the plan's length; the first `tasks` counts are made 0 here, and a successor that is counted
-        // is below `tasks`. Of the scratch only what was written is read.
+        // SAFETY: the header's questions give the plan's length; the counts are made 0 here, and a successor that is counted is below `tasks`.
+        // Of the scratch only what was written is read.
         unsafe {
             let predecessors = std::ptr::addr_of_mut!((*scratch).predecessors) as *mut u16;
-            predecessors.write_bytes(0, tasks);
+            predecessors.write_bytes(0, MOST_TASKS + UNUSED);
             let loose = match read_tasks(plan, tasks, scratch) {
                 Ok(loose) => loose,
                 Err(number) => return number,
