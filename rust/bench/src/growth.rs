@@ -40,7 +40,10 @@ fn series(rows: &[Measured], word: &str, what: &str, dashed: bool) -> Vec<Series
 /// A table of the three sides for a word, a line for each number across.
 fn print_table(rows: &[Measured], word: &str, title: &str, across: &str) {
     println!("\n{}\n", title);
-    println!("| {} | proved | twin | reference | proved, for each |", across);
+    println!(
+        "| {} | proved | twin | reference | proved, for each |",
+        across
+    );
     println!("|---|---|---|---|---|");
     let side = |side: usize| points(rows, word, side);
     for ((proved, twin), reference) in side(PROVED).iter().zip(side(TWIN)).zip(side(REFERENCE)) {
@@ -60,8 +63,18 @@ pub fn print(directory: &str) -> Result<(), String> {
     let rows = measured("growth")?;
     print_table(&rows, "accept", "Acceptance of a plan", "tasks");
     print_table(&rows, "run", "A whole run with up to 8 workers", "tasks");
-    print_table(&rows, "work", "A tick in which every worker works", "workers");
-    print_table(&rows, "vain", "A tick in which one works and all others steal in vain", "workers");
+    print_table(
+        &rows,
+        "work",
+        "A tick in which every worker works",
+        "workers",
+    );
+    print_table(
+        &rows,
+        "vain",
+        "A tick in which one works and all others steal in vain",
+        "workers",
+    );
     let both = |one: Vec<Series>, other: Vec<Series>| one.into_iter().chain(other).collect();
     let plots = [
         (

@@ -138,13 +138,21 @@ pub fn working(workers: usize) -> Scene {
     let power = workers.trailing_zeros() as usize;
     let leaf = |length: usize| 2 * length + 3 - power;
     let tasks = |length: usize| quanta * length + 1 + 2 * (workers - 1) + workers * leaf(length);
-    let length = (1..).take_while(|&l| tasks(l + 1) <= MOST_TASKS).last().expect("a quantum fits") + 1;
+    let length = (1..)
+        .take_while(|&l| tasks(l + 1) <= MOST_TASKS)
+        .last()
+        .expect("a quantum fits")
+        + 1;
     let mut graph = Graph::new();
     let (_, end) = chain(&mut graph, quanta * length + 1);
     let (root, _) = tree(&mut graph, workers, Leaf::Chain(leaf(length)));
     edge(&mut graph, end, root);
     let scene = two_quanta(plan_bytes(&graph, responsiveness, length), quanta, workers);
-    assert_eq!(cycles(&scene), (length * workers, 0, 0), "every worker works");
+    assert_eq!(
+        cycles(&scene),
+        (length * workers, 0, 0),
+        "every worker works"
+    );
     scene
 }
 
@@ -155,7 +163,11 @@ pub fn thieves() -> Scene {
     let (root, _) = tree(&mut graph, 32, Leaf::Comb(10));
     edge(&mut graph, end, root);
     let scene = two_quanta(plan_bytes(&graph, 4, 6), 3, 64);
-    assert_eq!(cycles(&scene), (6 * 64 - 3 * 32, 0, 3 * 32), "32 steal in every second tick");
+    assert_eq!(
+        cycles(&scene),
+        (6 * 64 - 3 * 32, 0, 3 * 32),
+        "32 steal in every second tick"
+    );
     scene
 }
 
@@ -200,7 +212,11 @@ pub fn in_vain(workers: usize) -> Scene {
         before,
         timed: writer.bytes,
     };
-    assert_eq!(cycles(&scene), (length, 0, length * (workers - 1)), "one works");
+    assert_eq!(
+        cycles(&scene),
+        (length, 0, length * (workers - 1)),
+        "one works"
+    );
     scene
 }
 
@@ -234,7 +250,8 @@ pub fn withdrawn() -> Scene {
     edge(&mut graph, end, root);
     let plan = plan_bytes(&graph, 4, 1);
     let mut writer = writer(&plan);
-    while writer.job.deques().len() < 64 || writer.job.deques().iter().any(|deque| deque.is_empty()) {
+    while writer.job.deques().len() < 64 || writer.job.deques().iter().any(|deque| deque.is_empty())
+    {
         quantum(&mut writer, 64, spreading);
     }
     let before = cut(&mut writer);
@@ -260,7 +277,12 @@ pub fn plans(tasks: usize, count: usize) -> Vec<Vec<u8>> {
     ];
     let mut random = Random::new(1);
     let mut one = |shape: Shape| plan_bytes(&graph(&mut random, shape, tasks), 2, 8);
-    shapes.iter().cycle().take(count).map(|&shape| one(shape)).collect()
+    shapes
+        .iter()
+        .cycle()
+        .take(count)
+        .map(|&shape| one(shape))
+        .collect()
 }
 
 /// The most bytes of a log here: as many as the program's whole input may have.
@@ -327,7 +349,11 @@ pub fn short_log() -> Scene {
 /// A whole run of a plan of so many tasks, from the first grant to the finish, with up to 8 workers and random choices.
 pub fn whole_run(tasks: usize) -> Scene {
     let mut random = Random::new(tasks as u64);
-    let plan = plan_bytes(&graph(&mut random, Shape::Layered { width: 12 }, tasks), 2, 8);
+    let plan = plan_bytes(
+        &graph(&mut random, Shape::Layered { width: 12 }, tasks),
+        2,
+        8,
+    );
     let mut writer = writer(&plan);
     while !writer.job.is_finished() {
         let workers = writer.job.allotment();

@@ -1,6 +1,6 @@
-//! The benchmark. `bench` prints the table; `bench growth DIRECTORY` prints how costs grow, and draws it; `bench quick` only tries that every
-//! row runs and the sides agree. `bench samples SET` is one process of a measurement; `bench names` and `bench one ROW SIDE COUNT` serve the
-//! counting of instructions.
+//! The benchmark. `bench` prints the table; `bench growth DIRECTORY` prints how costs grow, and draws it; `bench quick` only tries that
+//! every row runs and the sides agree. `bench samples SET` is one process of a measurement; `bench names` and `bench one ROW SIDE COUNT`
+//! serve the counting of instructions.
 
 mod growth;
 mod inputs;
@@ -18,7 +18,8 @@ use std::process::ExitCode;
 use rows::{Row, PROVED, REFERENCE, SIDES, TWIN};
 use timing::{agree, bench_timed_part, ratio, spread, Spread};
 
-const USAGE: &str = "usage: bench [table | growth DIRECTORY | quick | samples SET | names | one ROW SIDE COUNT]";
+const USAGE: &str =
+    "usage: bench [table | growth DIRECTORY | quick | samples SET | names | one ROW SIDE COUNT]";
 
 fn main() -> ExitCode {
     let arguments: Vec<String> = env::args().skip(1).collect();
@@ -53,7 +54,10 @@ pub fn time_text(nanoseconds: f64) -> String {
 }
 
 fn ratio_text(ratio: Spread) -> String {
-    format!("{:.2} ({:.2} to {:.2})", ratio.middle, ratio.low, ratio.high)
+    format!(
+        "{:.2} ({:.2} to {:.2})",
+        ratio.middle, ratio.low, ratio.high
+    )
 }
 
 fn table() -> Result<(), String> {
@@ -104,10 +108,17 @@ fn names() -> Result<(), String> {
 
 /// Runs one side of a row so many times.
 fn one(name: &str, side: &str, count: &str) -> Result<(), String> {
-    let count: usize = count.parse().map_err(|_| format!("{} is no count", count))?;
-    let side = SIDES.iter().position(|&s| s == side).ok_or_else(|| format!("{} is no side", side))?;
+    let count: usize = count
+        .parse()
+        .map_err(|_| format!("{} is no count", count))?;
+    let side = SIDES
+        .iter()
+        .position(|&s| s == side)
+        .ok_or_else(|| format!("{} is no side", side))?;
     let mut rows = rows::table().into_iter();
-    let mut row: Row = rows.find(|row| row.name == name).ok_or_else(|| format!("{} is no row", name))?;
+    let mut row: Row = rows
+        .find(|row| row.name == name)
+        .ok_or_else(|| format!("{} is no row", name))?;
     for _ in 0..count {
         row.works[side].restore();
         bench_timed_part(&mut *row.works[side]);

@@ -36,5 +36,9 @@ pub fn per_job() -> [usize; 3] {
     let before = IN_USE.load(Ordering::Relaxed);
     assert_eq!(job.accept(&plan), 0);
     let allocated = IN_USE.load(Ordering::Relaxed) - before;
-    [size_of::<proved::Job>(), size_of::<twin::Job>(), size_of::<Second>() + allocated]
+    [
+        size_of::<proved::Job>(),
+        size_of::<twin::Job>(),
+        size_of::<Second>() + allocated,
+    ]
 }

@@ -73,13 +73,32 @@ impl Frame {
     }
 
     fn series(&self, out: &mut String, series: &Series, place: usize) {
-        let points: Vec<String> = series.points.iter().map(|&(x, y)| format!("{:.1},{:.1}", self.x(x), self.y(y))).collect();
-        let dashes = if series.dashed { " stroke-dasharray=\"5 4\"" } else { "" };
-        let style = format!("fill=\"none\" stroke=\"{}\" stroke-width=\"2\"{}", series.colour, dashes);
+        let points: Vec<String> = series
+            .points
+            .iter()
+            .map(|&(x, y)| format!("{:.1},{:.1}", self.x(x), self.y(y)))
+            .collect();
+        let dashes = if series.dashed {
+            " stroke-dasharray=\"5 4\""
+        } else {
+            ""
+        };
+        let style = format!(
+            "fill=\"none\" stroke=\"{}\" stroke-width=\"2\"{}",
+            series.colour, dashes
+        );
         let _ = writeln!(out, "<polyline {} points=\"{}\"/>", style, points.join(" "));
         let y = TOP + 14.0 + 20.0 * place as f64;
         let x = WIDTH - RIGHT + 12.0;
-        let _ = writeln!(out, "<polyline {} points=\"{},{} {},{}\"/>", style, x, y, x + 24.0, y);
+        let _ = writeln!(
+            out,
+            "<polyline {} points=\"{},{} {},{}\"/>",
+            style,
+            x,
+            y,
+            x + 24.0,
+            y
+        );
         text(out, (x + 30.0, y + 4.0), "start", &series.name);
     }
 }
@@ -93,7 +112,11 @@ fn line(out: &mut String, from: (f64, f64), to: (f64, f64), colour: &str) {
 }
 
 fn text(out: &mut String, at: (f64, f64), anchor: &str, words: &str) {
-    let _ = writeln!(out, "<text x=\"{:.1}\" y=\"{:.1}\" text-anchor=\"{}\">{}</text>", at.0, at.1, anchor, words);
+    let _ = writeln!(
+        out,
+        "<text x=\"{:.1}\" y=\"{:.1}\" text-anchor=\"{}\">{}</text>",
+        at.0, at.1, anchor, words
+    );
 }
 
 impl Plot {
@@ -108,10 +131,24 @@ impl Plot {
             "<svg xmlns=\"http://www.w3.org/2000/svg\" viewBox=\"0 0 {} {}\" font-family=\"sans-serif\" font-size=\"12\">\n",
             WIDTH, HEIGHT
         );
-        let _ = writeln!(out, "<rect width=\"{}\" height=\"{}\" fill=\"white\"/>", WIDTH, HEIGHT);
-        text(&mut out, (LEFT, 24.0), "start", &format!("{}: {}", self.title, self.up));
+        let _ = writeln!(
+            out,
+            "<rect width=\"{}\" height=\"{}\" fill=\"white\"/>",
+            WIDTH, HEIGHT
+        );
+        text(
+            &mut out,
+            (LEFT, 24.0),
+            "start",
+            &format!("{}: {}", self.title, self.up),
+        );
         frame.grid(&mut out);
-        text(&mut out, ((LEFT + WIDTH - RIGHT) / 2.0, HEIGHT - 12.0), "middle", self.across);
+        text(
+            &mut out,
+            ((LEFT + WIDTH - RIGHT) / 2.0, HEIGHT - 12.0),
+            "middle",
+            self.across,
+        );
         for (place, series) in self.series.iter().enumerate() {
             frame.series(&mut out, series, place);
         }

@@ -52,7 +52,10 @@ pub fn measured(name: &str) -> Result<Vec<Measured>, String> {
         for result in &mut results {
             for side in 0..SIDES.len() {
                 let line = lines.next().ok_or("a process printed too few lines")?;
-                let numbers = line.split(' ').skip(1).filter_map(|word| word.parse::<f64>().ok());
+                let numbers = line
+                    .split(' ')
+                    .skip(1)
+                    .filter_map(|word| word.parse::<f64>().ok());
                 result.rounds[side].extend(numbers);
             }
         }

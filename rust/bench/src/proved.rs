@@ -46,8 +46,20 @@ extern "C" {
         refusals: *mut u64,
     ) -> u8;
     fn jirvaldo_core_status(words: *const u64) -> u8;
-    fn jirvaldo_core_wording(words: *const u64, sheet: *const u8, sheet_size: usize, start: *mut usize, size: *mut usize) -> u8;
-    fn jirvaldo_core_line(words: *const u64, refusals: u64, buffer: *mut u8, buffer_size: usize, size: *mut usize) -> u8;
+    fn jirvaldo_core_wording(
+        words: *const u64,
+        sheet: *const u8,
+        sheet_size: usize,
+        start: *mut usize,
+        size: *mut usize,
+    ) -> u8;
+    fn jirvaldo_core_line(
+        words: *const u64,
+        refusals: u64,
+        buffer: *mut u8,
+        buffer_size: usize,
+        size: *mut usize,
+    ) -> u8;
 }
 
 // SAFETY of every call below: the memory is a job's, which comes from an accepted plan and earlier calls (`accept` asks for nothing, and
@@ -120,10 +132,26 @@ impl Job {
     }
 
     pub fn wording(&self, sheet: &[u8], start: &mut usize, size: &mut usize) -> u8 {
-        unsafe { jirvaldo_core_wording(self.words.as_ptr(), sheet.as_ptr(), sheet.len(), start, size) }
+        unsafe {
+            jirvaldo_core_wording(
+                self.words.as_ptr(),
+                sheet.as_ptr(),
+                sheet.len(),
+                start,
+                size,
+            )
+        }
     }
 
     pub fn line(&self, refusals: u64, buffer: &mut [u8], size: &mut usize) -> u8 {
-        unsafe { jirvaldo_core_line(self.words.as_ptr(), refusals, buffer.as_mut_ptr(), buffer.len(), size) }
+        unsafe {
+            jirvaldo_core_line(
+                self.words.as_ptr(),
+                refusals,
+                buffer.as_mut_ptr(),
+                buffer.len(),
+                size,
+            )
+        }
     }
 }

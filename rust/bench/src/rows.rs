@@ -301,7 +301,14 @@ fn labels<S: Side>(scene: &Scene, sheet: &[u8]) -> Labels<S> {
 
 /// A row of ticks; the calls of the scene are one operation each.
 pub fn ticks(name: &str, scene: &Scene) -> Row {
-    row!(name, "tick", call_places(&scene.timed).len(), calls, scene, 1)
+    row!(
+        name,
+        "tick",
+        call_places(&scene.timed).len(),
+        calls,
+        scene,
+        1
+    )
 }
 
 /// A row of acceptances of plans of so many tasks.
@@ -329,10 +336,24 @@ pub fn table() -> Vec<Row> {
         ticks("tick-vain-64", &inputs::in_vain(64)),
         ticks("tick-steal-64", &inputs::thieves()),
         ticks("tick-steal-long", &inputs::long_deque()),
-        row!("grant-withdraw-64", "grant", 16, withdrawals, &withdrawn, 16),
+        row!(
+            "grant-withdraw-64",
+            "grant",
+            16,
+            withdrawals,
+            &withdrawn,
+            16
+        ),
         row!("grant-and-back-64", "round trip", 50, calls, &withdrawn, 50),
         row!("line", "line", REPEATS, lines, &mixed),
-        row!("label", "label", REPEATS, labels, &mixed, b"waiting\nrunning\non hold\ndone\n"),
+        row!(
+            "label",
+            "label",
+            REPEATS,
+            labels,
+            &mixed,
+            b"waiting\nrunning\non hold\ndone\n"
+        ),
         row!("label-4000", "label", REPEATS, labels, &mixed, &long_lines),
         replay("replay-mixed", &mixed),
         replay("replay-64", &inputs::wide_log()),
@@ -345,7 +366,9 @@ pub fn growth() -> Vec<Row> {
     let powers = |most: u32| (0..=most).map(|power| 1usize << power);
     let accept = powers(10).map(|tasks| acceptances(&format!("accept {}", tasks), tasks));
     let run = powers(10).map(|tasks| replay(&format!("run {}", tasks), &inputs::whole_run(tasks)));
-    let work = powers(6).map(|workers| ticks(&format!("work {}", workers), &inputs::working(workers)));
-    let steal = powers(6).map(|workers| ticks(&format!("vain {}", workers), &inputs::in_vain(workers)));
+    let work =
+        powers(6).map(|workers| ticks(&format!("work {}", workers), &inputs::working(workers)));
+    let steal =
+        powers(6).map(|workers| ticks(&format!("vain {}", workers), &inputs::in_vain(workers)));
     accept.chain(run).chain(work).chain(steal).collect()
 }

@@ -59,7 +59,13 @@ pub fn agree(row: &mut Row) {
         outcomes.push(work.outcome());
     }
     for (outcome, side) in outcomes.iter().zip(SIDES) {
-        assert!(*outcome == outcomes[0], "row {}: {} differs from {}", row.name, side, SIDES[0]);
+        assert!(
+            *outcome == outcomes[0],
+            "row {}: {} differs from {}",
+            row.name,
+            side,
+            SIDES[0]
+        );
     }
 }
 
@@ -83,5 +89,11 @@ pub fn measure(row: &mut Row, rounds: usize) -> Rounds {
 
 /// The times of one side by those of another, round by round.
 pub fn ratio(rounds: &Rounds, side: usize, by: usize) -> Spread {
-    spread(rounds[side].iter().zip(&rounds[by]).map(|(one, other)| one / other).collect())
+    spread(
+        rounds[side]
+            .iter()
+            .zip(&rounds[by])
+            .map(|(one, other)| one / other)
+            .collect(),
+    )
 }

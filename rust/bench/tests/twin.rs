@@ -13,7 +13,9 @@ fn view(job: &Reference) -> View {
         deques: job.deques().iter().map(tasks).collect(),
         muggable: job.muggable_deques().iter().map(tasks).collect(),
         desire: job.desire(),
-        open_quantum: job.open_quantum().map(|quantum| (quantum.ticks, quantum.usage)),
+        open_quantum: job
+            .open_quantum()
+            .map(|quantum| (quantum.ticks, quantum.usage)),
         quanta_begun: job.quanta_begun(),
     }
 }
@@ -24,7 +26,10 @@ fn same_texts(twin: &Job, job: &Reference, refused: u64, sheet: &[u8], buffer: u
     let mut size = 7;
     let number = twin.line(refused, &mut here, &mut size);
     let line = counters_line(job, refused, &mut there);
-    assert_eq!((number, size), line.map_or_else(|r| (r.number(), 0), |size| (0, size)));
+    assert_eq!(
+        (number, size),
+        line.map_or_else(|r| (r.number(), 0), |size| (0, size))
+    );
     assert_eq!(here, there);
     let (mut start, mut size) = (7, 7);
     let number = twin.wording(sheet, &mut start, &mut size);
@@ -59,7 +64,10 @@ fn generated_cases() {
                 Entry::Grant(workers) => stepped.grant(workers as u64),
                 Entry::Tick(choices) => stepped.tick(choices),
             };
-            assert_eq!(number, answer.as_ref().err().map_or(0, |refusal| refusal.number()));
+            assert_eq!(
+                number,
+                answer.as_ref().err().map_or(0, |refusal| refusal.number())
+            );
             entries += 1;
             if entries < 3_000 || entries % 1_000 == 0 {
                 assert_eq!(stepped.view(), view(after));
@@ -67,7 +75,10 @@ fn generated_cases() {
         });
         let mut refused = 7;
         let number = twin.run_log(&case.log, &mut refused);
-        assert_eq!((number, refused), (outcome.broken.map_or(0, |r| r.number()), outcome.refused));
+        assert_eq!(
+            (number, refused),
+            (outcome.broken.map_or(0, |r| r.number()), outcome.refused)
+        );
         assert_eq!((twin.view(), stepped.view()), (view(&job), view(&job)));
         same_texts(&twin, &job, refused, &case.sheet, case.buffer);
         same_texts(&twin, &job, u64::MAX, &case.sheet.repeat(9), 128);
@@ -95,7 +106,9 @@ fn refused_plans_of_every_number() {
     let mut twin = Job::blank();
     for case in cases(11).take(20_000) {
         let number = twin.accept(&case.plan);
-        let expected = Reference::accept(&case.plan).err().map_or(0, |refusal| refusal.number());
+        let expected = Reference::accept(&case.plan)
+            .err()
+            .map_or(0, |refusal| refusal.number());
         assert_eq!(number, expected);
         numbers[usize::from(number)] += 1;
     }

@@ -113,7 +113,10 @@ impl Numbers {
             return 16;
         }
         if workers != 0 {
-            if choices.iter().fold(false, |bad, &choice| bad | (choice >= workers)) {
+            if choices
+                .iter()
+                .fold(false, |bad, &choice| bad | (choice >= workers))
+            {
                 return 17;
             }
             // SAFETY: there are at most 64 choices, each below the number of workers.
@@ -126,7 +129,7 @@ impl Numbers {
         0
     }
 
-    /// The workers' cycles. The counts of work, mug and steal cycles follow at the end from the tasks and the muggable deques that are left.
+    /// The workers' cycles. The counts of mug and steal cycles follow at the end from the muggable deques that are left.
     ///
     /// # Safety
     /// There are at most 64 choices, each below the number of workers.
@@ -170,7 +173,8 @@ impl Numbers {
     /// The quantum's end.
     #[inline(always)]
     fn close_quantum(&mut self) {
-        let owed = u64::from(self.utilization) * u64::from(self.quantum_length) * u64::from(self.workers);
+        let owed =
+            u64::from(self.utilization) * u64::from(self.quantum_length) * u64::from(self.workers);
         if 100 * self.usage < owed {
             self.desire /= self.responsiveness;
         } else if self.workers == self.desire {
@@ -227,7 +231,8 @@ impl Tables {
     #[inline(always)]
     unsafe fn mug(&mut self, worker: usize, head: usize) {
         *self.ends.get_unchecked_mut(worker) = *self.ends.get_unchecked(WORKERS + head);
-        *self.ends.get_unchecked_mut(SIZES + worker) = *self.ends.get_unchecked(SIZES + WORKERS + head);
+        *self.ends.get_unchecked_mut(SIZES + worker) =
+            *self.ends.get_unchecked(SIZES + WORKERS + head);
     }
 
     /// The back task of a deque of this size, two or more, becomes the thief's deque.

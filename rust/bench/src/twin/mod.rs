@@ -108,11 +108,22 @@ impl Job {
         let ring = |age| WORKERS + (numbers.head + age) % WORKERS;
         let tasks = usize::from(numbers.tasks);
         View {
-            worked: self.tables.pending[..tasks].iter().map(|&p| p == 3).collect(),
-            deques: (0..usize::from(numbers.workers)).map(|w| self.deque(w)).collect(),
-            muggable: (0..numbers.waiting).map(|age| self.deque(ring(age))).collect(),
+            worked: self.tables.pending[..tasks]
+                .iter()
+                .map(|&p| p == 3)
+                .collect(),
+            deques: (0..usize::from(numbers.workers))
+                .map(|w| self.deque(w))
+                .collect(),
+            muggable: (0..numbers.waiting)
+                .map(|age| self.deque(ring(age)))
+                .collect(),
             desire: usize::from(numbers.desire),
-            open_quantum: if numbers.is_open { Some((u32::from(numbers.ticks), numbers.usage)) } else { None },
+            open_quantum: if numbers.is_open {
+                Some((u32::from(numbers.ticks), numbers.usage))
+            } else {
+                None
+            },
             quanta_begun: u32::from(numbers.begun),
         }
     }

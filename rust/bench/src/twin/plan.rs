@@ -89,7 +89,8 @@ unsafe fn read_tasks(plan: &[u8], tasks: usize, scratch: *mut Scratch) -> Result
         // all ones where the second field is used; it lies from `low` up then, and is 0 else
         let used = (count >> 1).wrapping_neg();
         let first_fits = first.wrapping_sub(low) < room;
-        let second_fits = second.wrapping_sub(low & used) < (room.wrapping_sub(1) & used) + 1;
+        let second_room = (room.wrapping_sub(1) & used).wrapping_add(1);
+        let second_fits = second.wrapping_sub(low & used) < second_room;
         if !((count.wrapping_sub(1) < 2) & first_fits & second_fits & (first != second)) {
             let number = task_refusal(word, task, tasks);
             if number != 0 {
@@ -116,8 +117,8 @@ impl Job {
         let tasks = header.tasks;
         let mut scratch = MaybeUninit::<Scratch>::uninit();
         let scratch = scratch.as_mut_ptr();
-        // SAFETY: the header's questions give the plan's length; the counts are made 0 here, and a successor that is counted is below `tasks`.
-        // Of the scratch only what was written is read.
+        // SAFETY: the header's questions give the plan's length; the counts are made 0 here, and a successor that is counted is below
+        // `tasks`. Of the scratch only what was written is read.
         unsafe {
             let predecessors = std::ptr::addr_of_mut!((*scratch).predecessors) as *mut u16;
             predecessors.write_bytes(0, MOST_TASKS + UNUSED);
@@ -127,7 +128,10 @@ impl Job {
             };
             predecessors.write(1);
             let counts = std::slice::from_raw_parts(predecessors, tasks);
-            if counts.iter().fold(false, |bad, &c| bad | (c.wrapping_sub(1) >= 2)) {
+            if counts
+                .iter()
+                .fold(false, |bad, &c| bad | (c.wrapping_sub(1) >= 2))
+            {
                 return 9;
             }
             if loose > 1 {
@@ -146,15 +150,23 @@ impl Job {
     #[inline(always)]
     unsafe fn fill(&mut self, header: Header, scratch: *const Scratch) {
         let tasks = header.tasks;
-        let first = std::slice::from_raw_parts(std::ptr::addr_of!((*scratch).first) as *const u16, tasks);
-        let second = std::slice::from_raw_parts(std::ptr::addr_of!((*scratch).second) as *const u16, tasks);
-        let counts = std::slice::from_raw_parts(std::ptr::addr_of!((*scratch).predecessors) as *const u16, tasks);
+        let first =
+            std::slice::from_raw_parts(std::ptr::addr_of!((*scratch).first) as *const u16, tasks);
+        let second =
+            std::slice::from_raw_parts(std::ptr::addr_of!((*scratch).second) as *const u16, tasks);
+        let counts = std::slice::from_raw_parts(
+            std::ptr::addr_of!((*scratch).predecessors) as *const u16,
+            tasks,
+        );
         let tables = &mut self.tables;
         tables.first[..tasks].copy_from_slice(first);
         tables.first[tasks..].fill(0);
         tables.second[..tasks].copy_from_slice(second);
         tables.second[tasks..].fill(0);
-        tables.pending[..tasks].iter_mut().zip(counts).for_each(|(p, &c)| *p = c as u8);
+        tables.pending[..tasks]
+            .iter_mut()
+            .zip(counts)
+            .for_each(|(p, &c)| *p = c as u8);
         tables.pending[tasks..].fill(0);
         tables.next.fill(0);
         tables.ends.fill(0);

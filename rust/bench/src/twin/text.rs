@@ -34,7 +34,7 @@ const fn powers() -> [u64; 20] {
 #[inline(always)]
 fn digits(n: u64) -> usize {
     let bits = 64 - (n | 1).leading_zeros() as usize;
-    let below = bits * 1233 >> 12;
+    let below = (bits * 1233) >> 12;
     below + usize::from(n >= POWERS[below])
 }
 
@@ -70,7 +70,9 @@ unsafe fn put(at: *mut u8, n: u64, end: u8) -> *mut u8 {
 #[cfg(target_arch = "x86_64")]
 #[inline(always)]
 fn find_line(sheet: &[u8], skip: u8) -> Option<(usize, usize)> {
-    use std::arch::x86_64::{__m128i, _mm_cmpeq_epi8, _mm_loadu_si128, _mm_movemask_epi8, _mm_set1_epi8};
+    use std::arch::x86_64::{
+        __m128i, _mm_cmpeq_epi8, _mm_loadu_si128, _mm_movemask_epi8, _mm_set1_epi8,
+    };
     let (mut start, mut skip, mut base) = (0, skip, 0);
     while base + 16 <= sheet.len() {
         // SAFETY: 16 bytes are there, and SSE2 is part of x86-64.
@@ -99,7 +101,12 @@ fn find_line(sheet: &[u8], skip: u8) -> Option<(usize, usize)> {
 }
 
 #[inline(always)]
-fn find_in_rest(sheet: &[u8], mut skip: u8, mut start: usize, from: usize) -> Option<(usize, usize)> {
+fn find_in_rest(
+    sheet: &[u8],
+    mut skip: u8,
+    mut start: usize,
+    from: usize,
+) -> Option<(usize, usize)> {
     for (end, &byte) in sheet.iter().enumerate().skip(from) {
         if byte == 10 {
             if skip == 0 {
