@@ -60,6 +60,9 @@ fn print_table(rows: &[Measured], word: &str, title: &str, across: &str) {
 
 /// Measures, prints the tables and writes the plots into a directory.
 pub fn print(directory: &str) -> Result<(), String> {
+    if !Path::new(directory).is_dir() {
+        return Err(format!("{} is no directory", directory));
+    }
     let rows = measured("growth")?;
     print_table(&rows, "accept", "Acceptance of a plan", "tasks");
     print_table(&rows, "run", "A whole run with up to 8 workers", "tasks");
