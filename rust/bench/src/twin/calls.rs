@@ -209,8 +209,7 @@ impl Tables {
         *self.ends.get_unchecked_mut(SIZES + worker) = deque.1;
     }
 
-    /// A predecessor of the task was worked: where it was the last one, the task goes to the front of the deque (front and size). The link
-    /// of a task that is not ready means nothing, so it is stored without asking.
+    /// A predecessor of the task was worked: where it was the last one, the task goes to the front of the deque (front and size).
     ///
     /// # Safety
     /// The task is below 1,024.
@@ -219,9 +218,11 @@ impl Tables {
         let at = usize::from(task);
         let awaited = *self.pending.get_unchecked(at) - 1;
         *self.pending.get_unchecked_mut(at) = awaited;
+        if awaited != 0 {
+            return (front, size);
+        }
         *self.next.get_unchecked_mut(at) = front;
-        let ready = awaited == 0;
-        (if ready { task } else { front }, size + u16::from(ready))
+        (task, size + 1)
     }
 
     /// The oldest muggable deque becomes the worker's.
