@@ -1,0 +1,373 @@
+//! Plans and logs that bring a job to the state that a row measures.
+
+use reference::generator::graph::{graph, Graph, Shape, MOST_TASKS};
+use reference::generator::logs::Writer;
+use reference::generator::plans::Draft;
+use reference::generator::Random;
+use reference::{run_log, Job};
+
+/// A plan, the log that brings its job to the measured state, and the calls that are measured, as a log too.
+pub struct Scene {
+    pub plan: Vec<u8>,
+    pub before: Vec<u8>,
+    pub timed: Vec<u8>,
+}
+
+/// What stands at the leaves of a fork tree.
+#[derive(Clone, Copy)]
+pub enum Leaf {
+    /// A chain of so many tasks.
+    Chain(usize),
+    /// A comb with so many tasks of spine: each but the last leaves a tooth, which a row collects from the last one on.
+    Comb(usize),
+}
+
+/// Appends a task; its number.
+fn task(graph: &mut Graph) -> usize {
+    graph.push(Vec::new());
+    graph.len() - 1
+}
+
+fn edge(graph: &mut Graph, from: usize, to: usize) {
+    graph[from].push(to as u16);
+}
+
+/// Appends that many tasks, each before the next; the first and the last.
+fn chain(graph: &mut Graph, count: usize) -> (usize, usize) {
+    let first = task(graph);
+    for last in first..first + count - 1 {
+        let next = task(graph);
+        edge(graph, last, next);
+    }
+    (first, first + count - 1)
+}
+
+fn comb(graph: &mut Graph, spine: usize) -> (usize, usize) {
+    let (first, last) = chain(graph, spine);
+    let teeth: Vec<usize> = (first..last).map(|_| task(graph)).collect();
+    for (&tooth, back) in teeth.iter().zip(first..last) {
+        edge(graph, back, tooth);
+    }
+    let (row, row_end) = chain(graph, teeth.len());
+    for (&tooth, collector) in teeth.iter().rev().zip(row..) {
+        edge(graph, tooth, collector);
+    }
+    let exit = task(graph);
+    edge(graph, last, exit);
+    edge(graph, row_end, exit);
+    (first, exit)
+}
+
+/// Forks down to so many leaves, a power of two, and joins them.
+fn tree(graph: &mut Graph, leaves: usize, leaf: Leaf) -> (usize, usize) {
+    if leaves == 1 {
+        return match leaf {
+            Leaf::Chain(count) => chain(graph, count),
+            Leaf::Comb(spine) => comb(graph, spine),
+        };
+    }
+    let fork = task(graph);
+    let (left, left_end) = tree(graph, leaves / 2, leaf);
+    let (right, right_end) = tree(graph, leaves / 2, leaf);
+    let join = task(graph);
+    edge(graph, fork, left);
+    edge(graph, fork, right);
+    edge(graph, left_end, join);
+    edge(graph, right_end, join);
+    (fork, join)
+}
+
+/// A plan's bytes, with D = 1, so that a worker in 64 is enough for an efficient quantum.
+fn plan_bytes(graph: &Graph, responsiveness: usize, length: usize) -> Vec<u8> {
+    let mut draft = Draft::of_graph(graph);
+    draft.responsiveness = responsiveness as u64;
+    draft.utilization = 1;
+    draft.quantum_length = length as u64;
+    draft.bytes()
+}
+
+fn writer(plan: &[u8]) -> Writer {
+    Writer::new(Job::accept(plan).expect("the benchmark's plans are sound"))
+}
+
+/// R and the number of quanta in which the desire rises from 1 to so many workers, a power of two.
+fn growth(workers: usize) -> (usize, usize) {
+    let power = workers.trailing_zeros() as usize;
+    if power % 2 == 0 {
+        (4, power / 2)
+    } else {
+        (2, power)
+    }
+}
+
+/// Choices by which a fork tree spreads: the workers with deques double with each tick.
+fn spreading(workers: usize) -> Vec<u8> {
+    let halved = |worker: usize| worker & !(worker + 1).next_power_of_two().wrapping_shr(1);
+    (0..workers).map(|worker| halved(worker) as u8).collect()
+}
+
+/// Grants the desire, up to so many, and ticks to the quantum's end.
+fn quantum(writer: &mut Writer, most: usize, choices: impl Fn(usize) -> Vec<u8>) {
+    let workers = writer.job.desire().min(most);
+    writer.grant(workers);
+    for _ in 0..writer.job.plan().quantum_length() {
+        writer.tick(&choices(workers));
+    }
+}
+
+/// The work, mug and steal cycles of a scene's measured calls.
+fn cycles(scene: &Scene) -> (usize, usize, usize) {
+    let mut job = Job::accept(&scene.plan).expect("the benchmark's plans are sound");
+    let counts = |job: &Job| [job.work_cycles(), job.mug_cycles(), job.steal_cycles()];
+    run_log(&mut job, &scene.before);
+    let before = counts(&job);
+    run_log(&mut job, &scene.timed);
+    let after = counts(&job);
+    let more = |kind: usize| (after[kind] - before[kind]) as usize;
+    (more(0), more(1), more(2))
+}
+
+/// The log so far, and the rest of it from now on.
+fn cut(writer: &mut Writer) -> Vec<u8> {
+    std::mem::take(&mut writer.bytes)
+}
+
+/// Every worker works in every measured tick: one on each leaf of a tree. The measured ticks are one quantum.
+pub fn working(workers: usize) -> Scene {
+    let (responsiveness, quanta) = growth(workers);
+    let power = workers.trailing_zeros() as usize;
+    let leaf = |length: usize| 2 * length + 3 - power;
+    let tasks = |length: usize| quanta * length + 1 + 2 * (workers - 1) + workers * leaf(length);
+    let length = (1..)
+        .take_while(|&l| tasks(l + 1) <= MOST_TASKS)
+        .last()
+        .expect("a quantum fits")
+        + 1;
+    let mut graph = Graph::new();
+    let (_, end) = chain(&mut graph, quanta * length + 1);
+    let (root, _) = tree(&mut graph, workers, Leaf::Chain(leaf(length)));
+    edge(&mut graph, end, root);
+    let scene = two_quanta(plan_bytes(&graph, responsiveness, length), quanta, workers);
+    assert_eq!(
+        cycles(&scene),
+        (length * workers, 0, 0),
+        "every worker works"
+    );
+    scene
+}
+
+/// 32 workers are on a comb each, and 32 steal its teeth: a steal that succeeds in every second tick of a thief.
+pub fn thieves() -> Scene {
+    let mut graph = Graph::new();
+    let (_, end) = chain(&mut graph, 3 * 6 + 1);
+    let (root, _) = tree(&mut graph, 32, Leaf::Comb(10));
+    edge(&mut graph, end, root);
+    let scene = two_quanta(plan_bytes(&graph, 4, 6), 3, 64);
+    assert_eq!(
+        cycles(&scene),
+        (6 * 64 - 3 * 32, 0, 3 * 32),
+        "32 steal in every second tick"
+    );
+    scene
+}
+
+/// The desire rises, the tree spreads in one quantum, and the next one is measured; its grant is not.
+fn two_quanta(plan: Vec<u8>, quanta: usize, workers: usize) -> Scene {
+    let mut writer = writer(&plan);
+    for _ in 0..=quanta {
+        quantum(&mut writer, workers, spreading);
+    }
+    writer.grant(workers);
+    let before = cut(&mut writer);
+    for _ in 0..writer.job.plan().quantum_length() {
+        writer.tick(&spreading(workers));
+    }
+    Scene {
+        plan,
+        before,
+        timed: writer.bytes,
+    }
+}
+
+/// A chain: one worker works in every measured tick, and all others steal in vain.
+pub fn in_vain(workers: usize) -> Scene {
+    let mut random = Random::new(workers as u64);
+    let (responsiveness, quanta) = growth(workers);
+    let length = (MOST_TASKS - 1) / (quanta + 1);
+    let mut graph = Graph::new();
+    chain(&mut graph, MOST_TASKS);
+    let plan = plan_bytes(&graph, responsiveness, length);
+    let mut writer = writer(&plan);
+    for _ in 0..quanta {
+        quantum(&mut writer, workers, |workers| vec![0; workers]);
+    }
+    writer.grant(workers);
+    let before = cut(&mut writer);
+    for _ in 0..length {
+        let choices: Vec<u8> = (0..workers).map(|_| random.below(workers) as u8).collect();
+        writer.tick(&choices);
+    }
+    let scene = Scene {
+        plan,
+        before,
+        timed: writer.bytes,
+    };
+    assert_eq!(
+        cycles(&scene),
+        (length, 0, length * (workers - 1)),
+        "one works"
+    );
+    scene
+}
+
+/// One tick in which 63 workers steal from the same deque of 300 tasks.
+pub fn long_deque() -> Scene {
+    let mut graph = Graph::new();
+    comb(&mut graph, 341);
+    let plan = plan_bytes(&graph, 4, 100);
+    let mut writer = writer(&plan);
+    for _ in 0..3 {
+        quantum(&mut writer, 64, |workers| (0..workers as u8).collect());
+    }
+    writer.grant(64);
+    let before = cut(&mut writer);
+    writer.tick(&[0; 64]);
+    let scene = Scene {
+        plan,
+        before,
+        timed: writer.bytes,
+    };
+    assert_eq!(cycles(&scene), (1, 0, 63), "one works");
+    scene
+}
+
+/// Quanta of one tick, and 64 deques that are not empty. Measured: 64 workers are withdrawn, a tick of none, 64 workers are granted, and
+/// take the deques back in 64 mug cycles.
+pub fn withdrawn() -> Scene {
+    let mut graph = Graph::new();
+    let (_, end) = chain(&mut graph, 4);
+    let (root, _) = tree(&mut graph, 64, Leaf::Chain(13));
+    edge(&mut graph, end, root);
+    let plan = plan_bytes(&graph, 4, 1);
+    let mut writer = writer(&plan);
+    while writer.job.deques().len() < 64 || writer.job.deques().iter().any(|deque| deque.is_empty())
+    {
+        quantum(&mut writer, 64, spreading);
+    }
+    let before = cut(&mut writer);
+    writer.grant(0);
+    writer.tick(&[]);
+    quantum(&mut writer, 64, |workers| vec![0; workers]);
+    let scene = Scene {
+        plan,
+        before,
+        timed: writer.bytes,
+    };
+    assert_eq!(cycles(&scene), (0, 64, 0), "every deque is taken back");
+    scene
+}
+
+/// Plans of so many tasks: chains, combs, fork-joins and layers, with one and two successors in any order.
+pub fn plans(tasks: usize, count: usize) -> Vec<Vec<u8>> {
+    let shapes = [
+        Shape::ForkJoin,
+        Shape::Layered { width: 16 },
+        Shape::Tangled { width: 40 },
+        Shape::Layered { width: 100 },
+    ];
+    let mut random = Random::new(1);
+    let mut one = |shape: Shape| plan_bytes(&graph(&mut random, shape, tasks), 2, 8);
+    shapes
+        .iter()
+        .cycle()
+        .take(count)
+        .map(|&shape| one(shape))
+        .collect()
+}
+
+/// The most bytes of a log here: as many as the program's whole input may have.
+const LOG_BYTES: usize = 65_536;
+
+/// Grants of any kind and random choices until the log is full: work, mug and steal cycles, quanta of none, some refused calls.
+pub fn mixed_log() -> Scene {
+    let mut random = Random::new(3);
+    let graph = graph(&mut random, Shape::Layered { width: 2 }, MOST_TASKS);
+    let plan = plan_bytes(&graph, 2, 4);
+    let mut writer = writer(&plan);
+    loop {
+        let desire = writer.job.desire();
+        let workers = writer.job.allotment();
+        if random.chance(4) {
+            writer.stray(&mut random);
+        } else if writer.job.open_quantum().is_none() {
+            let any = random.below(desire + 1);
+            writer.grant(*random.pick(&[desire, desire, desire, any, 0]).unwrap_or(&0));
+        } else {
+            let choices: Vec<u8> = (0..workers).map(|_| random.below(workers) as u8).collect();
+            writer.tick(&choices);
+        }
+        if writer.job.is_finished() || writer.bytes.len() + 65 > LOG_BYTES {
+            return Scene {
+                plan,
+                before: Vec::new(),
+                timed: writer.bytes,
+            };
+        }
+    }
+}
+
+/// A chain with as many workers as are wanted, 64 after three quanta: the longest run of ticks that a job can take with 64 workers.
+pub fn wide_log() -> Scene {
+    let mut random = Random::new(4);
+    let mut graph = Graph::new();
+    chain(&mut graph, MOST_TASKS);
+    let plan = plan_bytes(&graph, 4, 10);
+    let mut writer = writer(&plan);
+    while writer.bytes.len() + 1 + 10 * 65 <= LOG_BYTES {
+        let workers = writer.job.desire();
+        let choices: Vec<u8> = (0..workers).map(|_| random.below(workers) as u8).collect();
+        quantum(&mut writer, 64, |_| choices.clone());
+    }
+    Scene {
+        plan,
+        before: Vec::new(),
+        timed: writer.bytes,
+    }
+}
+
+/// The shortest entries: quanta of no workers, a grant and a tick of one byte each.
+pub fn short_log() -> Scene {
+    let mut graph = Graph::new();
+    chain(&mut graph, MOST_TASKS);
+    Scene {
+        plan: plan_bytes(&graph, 2, 1),
+        before: Vec::new(),
+        timed: [0x00, 0x80].repeat(LOG_BYTES / 2),
+    }
+}
+
+/// A whole run of a plan of so many tasks, from the first grant to the finish, with up to 8 workers and random choices.
+pub fn whole_run(tasks: usize) -> Scene {
+    let mut random = Random::new(tasks as u64);
+    let plan = plan_bytes(
+        &graph(&mut random, Shape::Layered { width: 12 }, tasks),
+        2,
+        8,
+    );
+    let mut writer = writer(&plan);
+    while !writer.job.is_finished() {
+        let workers = writer.job.allotment();
+        if writer.job.open_quantum().is_none() {
+            let desire = writer.job.desire();
+            writer.grant(desire.min(8));
+        } else {
+            let choices: Vec<u8> = (0..workers).map(|_| random.below(workers) as u8).collect();
+            writer.tick(&choices);
+        }
+    }
+    Scene {
+        plan,
+        before: Vec::new(),
+        timed: writer.bytes,
+    }
+}

@@ -1,0 +1,157 @@
+//! The proved static library, called as C calls it.
+
+/// A job as the library takes it: its arrays and its words, side by side.
+#[derive(Clone)]
+pub struct Job {
+    first: [u16; 1024],
+    second: [u16; 1024],
+    pending: [u8; 1024],
+    next: [u16; 1024],
+    ends: [u16; 256],
+    words: [u64; 18],
+}
+
+#[link(name = "jirvaldo", kind = "static")]
+extern "C" {
+    fn jirvaldo_core_accept(
+        plan: *const u8,
+        plan_size: usize,
+        first: *mut u16,
+        second: *mut u16,
+        pending: *mut u8,
+        next: *mut u16,
+        ends: *mut u16,
+        words: *mut u64,
+    ) -> u8;
+    fn jirvaldo_core_grant(ends: *mut u16, words: *mut u64, workers: u64) -> u8;
+    fn jirvaldo_core_tick(
+        first: *const u16,
+        second: *const u16,
+        pending: *mut u8,
+        next: *mut u16,
+        ends: *mut u16,
+        words: *mut u64,
+        choices: *const u8,
+        choices_size: usize,
+    ) -> u8;
+    fn jirvaldo_core_run_log(
+        first: *const u16,
+        second: *const u16,
+        pending: *mut u8,
+        next: *mut u16,
+        ends: *mut u16,
+        words: *mut u64,
+        log: *const u8,
+        log_size: usize,
+        refusals: *mut u64,
+    ) -> u8;
+    fn jirvaldo_core_status(words: *const u64) -> u8;
+    fn jirvaldo_core_wording(
+        words: *const u64,
+        sheet: *const u8,
+        sheet_size: usize,
+        start: *mut usize,
+        size: *mut usize,
+    ) -> u8;
+    fn jirvaldo_core_line(
+        words: *const u64,
+        refusals: u64,
+        buffer: *mut u8,
+        buffer_size: usize,
+        size: *mut usize,
+    ) -> u8;
+}
+
+// SAFETY of every call below: the memory is a job's, which comes from an accepted plan and earlier calls (`accept` asks for nothing, and
+// the benchmark makes no other call on a blank job); references are valid, not null and do not overlap.
+impl Job {
+    /// Memory for a job, which is none until a plan is accepted.
+    pub fn blank() -> Job {
+        Job {
+            first: [0; 1024],
+            second: [0; 1024],
+            pending: [0; 1024],
+            next: [0; 1024],
+            ends: [0; 256],
+            words: [0; 18],
+        }
+    }
+
+    pub fn accept(&mut self, plan: &[u8]) -> u8 {
+        unsafe {
+            jirvaldo_core_accept(
+                plan.as_ptr(),
+                plan.len(),
+                self.first.as_mut_ptr(),
+                self.second.as_mut_ptr(),
+                self.pending.as_mut_ptr(),
+                self.next.as_mut_ptr(),
+                self.ends.as_mut_ptr(),
+                self.words.as_mut_ptr(),
+            )
+        }
+    }
+
+    pub fn grant(&mut self, workers: u64) -> u8 {
+        unsafe { jirvaldo_core_grant(self.ends.as_mut_ptr(), self.words.as_mut_ptr(), workers) }
+    }
+
+    pub fn tick(&mut self, choices: &[u8]) -> u8 {
+        unsafe {
+            jirvaldo_core_tick(
+                self.first.as_ptr(),
+                self.second.as_ptr(),
+                self.pending.as_mut_ptr(),
+                self.next.as_mut_ptr(),
+                self.ends.as_mut_ptr(),
+                self.words.as_mut_ptr(),
+                choices.as_ptr(),
+                choices.len(),
+            )
+        }
+    }
+
+    pub fn run_log(&mut self, log: &[u8], refusals: &mut u64) -> u8 {
+        unsafe {
+            jirvaldo_core_run_log(
+                self.first.as_ptr(),
+                self.second.as_ptr(),
+                self.pending.as_mut_ptr(),
+                self.next.as_mut_ptr(),
+                self.ends.as_mut_ptr(),
+                self.words.as_mut_ptr(),
+                log.as_ptr(),
+                log.len(),
+                refusals,
+            )
+        }
+    }
+
+    pub fn status(&self) -> u8 {
+        unsafe { jirvaldo_core_status(self.words.as_ptr()) }
+    }
+
+    pub fn wording(&self, sheet: &[u8], start: &mut usize, size: &mut usize) -> u8 {
+        unsafe {
+            jirvaldo_core_wording(
+                self.words.as_ptr(),
+                sheet.as_ptr(),
+                sheet.len(),
+                start,
+                size,
+            )
+        }
+    }
+
+    pub fn line(&self, refusals: u64, buffer: &mut [u8], size: &mut usize) -> u8 {
+        unsafe {
+            jirvaldo_core_line(
+                self.words.as_ptr(),
+                refusals,
+                buffer.as_mut_ptr(),
+                buffer.len(),
+                size,
+            )
+        }
+    }
+}

@@ -1,0 +1,253 @@
+//! Grant, tick and log.
+
+use super::{Job, Numbers, Tables, SIZES, WORKERS};
+
+/// The largest power of R that is at most 64, for R = 2 to 7.
+const TOP_DESIRES: [u8; 6] = [64, 27, 64, 25, 36, 49];
+const MOST_QUANTA: u16 = 65_535;
+
+impl Job {
+    /// A grant of any number of workers; refused with 11 to 14.
+    #[inline(never)]
+    pub fn grant(&mut self, workers: u64) -> u8 {
+        self.numbers.grant(&mut self.tables, workers)
+    }
+
+    /// A tick with a choice for each granted worker; refused with 11 and 15 to 17.
+    #[inline(never)]
+    pub fn tick(&mut self, choices: &[u8]) -> u8 {
+        self.numbers.tick(&mut self.tables, choices)
+    }
+
+    /// A log of any bytes; 18 where an entry is broken. `refusals` becomes the count of refused calls.
+    #[inline(never)]
+    pub fn run_log(&mut self, log: &[u8], refusals: &mut u64) -> u8 {
+        let (tables, numbers) = (&mut self.tables, &mut self.numbers);
+        let (mut refused, mut rest, mut answer) = (0, log, 0);
+        while let Some((&head, after)) = rest.split_first() {
+            if head < 128 {
+                refused += u64::from(numbers.grant(tables, u64::from(head)) != 0);
+                rest = after;
+                continue;
+            }
+            let count = usize::from(head & 127);
+            if count > after.len() {
+                answer = 18;
+                break;
+            }
+            let (choices, after) = after.split_at(count);
+            refused += u64::from(numbers.tick(tables, choices) != 0);
+            rest = after;
+        }
+        *refusals = refused;
+        answer
+    }
+}
+
+impl Numbers {
+    #[inline(always)]
+    fn grant(&mut self, tables: &mut Tables, workers: u64) -> u8 {
+        if self.done == self.tasks {
+            return 11;
+        }
+        if self.is_open {
+            return 12;
+        }
+        if self.begun == MOST_QUANTA {
+            return 13;
+        }
+        if workers > u64::from(self.desire) {
+            return 14;
+        }
+        let granted = workers as usize;
+        let before = usize::from(self.workers);
+        if granted < before {
+            // SAFETY: `before` is at most 64.
+            unsafe { self.withdraw(tables, granted, before) };
+        } else if granted > before {
+            tables.ends[SIZES + before..SIZES + granted].fill(0);
+        }
+        if !self.started && granted > 0 {
+            tables.ends[0] = 0;
+            tables.ends[SIZES] = 1;
+            self.started = true;
+        }
+        self.workers = granted as u8;
+        self.usage = 0;
+        self.is_open = true;
+        self.ticks = 0;
+        self.begun += 1;
+        0
+    }
+
+    /// The deques of workers `from` up to `to` that are not empty join the end of the muggable ones.
+    ///
+    /// # Safety
+    /// `to` is at most 64.
+    #[inline(always)]
+    unsafe fn withdraw(&mut self, tables: &mut Tables, from: usize, to: usize) {
+        let ends = tables.ends.as_mut_ptr();
+        let mut end = self.head + self.waiting;
+        for worker in from..to {
+            let size = *ends.add(SIZES + worker);
+            if size != 0 {
+                let place = WORKERS + end % WORKERS;
+                *ends.add(place) = *ends.add(worker);
+                *ends.add(SIZES + place) = size;
+                end += 1;
+            }
+        }
+        self.waiting = end - self.head;
+    }
+
+    #[inline(always)]
+    fn tick(&mut self, tables: &mut Tables, choices: &[u8]) -> u8 {
+        if self.done == self.tasks {
+            return 11;
+        }
+        if !self.is_open {
+            return 15;
+        }
+        let workers = self.workers;
+        if choices.len() != usize::from(workers) {
+            return 16;
+        }
+        if workers != 0 {
+            if choices
+                .iter()
+                .fold(false, |bad, &choice| bad | (choice >= workers))
+            {
+                return 17;
+            }
+            // SAFETY: there are at most 64 choices, each below the number of workers.
+            unsafe { self.cycles(tables, choices) };
+        }
+        self.ticks += 1;
+        if self.ticks == self.quantum_length && self.done != self.tasks {
+            self.close_quantum();
+        }
+        0
+    }
+
+    /// The workers' cycles. The counts of mug and steal cycles follow at the end from the muggable deques that are left.
+    ///
+    /// # Safety
+    /// There are at most 64 choices, each below the number of workers.
+    #[inline(always)]
+    unsafe fn cycles(&mut self, tables: &mut Tables, choices: &[u8]) {
+        let unworked = u64::from(self.tasks - self.done);
+        let (waiting, mut left) = (self.waiting, self.waiting);
+        let (mut works, mut successes, mut cycles) = (0, 0, choices.len());
+        for (worker, &choice) in choices.iter().enumerate() {
+            let size = *tables.ends.get_unchecked(SIZES + worker);
+            if size != 0 {
+                tables.work(worker, size);
+                works += 1;
+                if works == unworked {
+                    cycles = worker + 1;
+                    break;
+                }
+            } else if left != 0 {
+                tables.mug(worker, (self.head + waiting - left) % WORKERS);
+                left -= 1;
+            } else {
+                let victim = usize::from(choice);
+                let size = *tables.ends.get_unchecked(SIZES + victim);
+                if size >= 2 {
+                    tables.steal(worker, victim, size);
+                    successes += 1;
+                }
+            }
+        }
+        let mugs = waiting - left;
+        self.head = (self.head + mugs) % WORKERS;
+        self.waiting = left;
+        self.done += works as u16;
+        self.works += works;
+        self.mugs += mugs as u64;
+        self.steals += cycles as u64 - works - mugs as u64;
+        self.successes += successes;
+        self.usage += works + mugs as u64;
+    }
+
+    /// The quantum's end.
+    #[inline(always)]
+    fn close_quantum(&mut self) {
+        let owed =
+            u64::from(self.utilization) * u64::from(self.quantum_length) * u64::from(self.workers);
+        if 100 * self.usage < owed {
+            self.desire /= self.responsiveness;
+        } else if self.workers == self.desire {
+            let top = TOP_DESIRES[usize::from(self.responsiveness) - 2];
+            if self.desire != top {
+                self.desire *= self.responsiveness;
+            }
+        }
+        self.is_open = false;
+    }
+}
+
+impl Tables {
+    /// The front task of the worker's deque of this size is worked.
+    ///
+    /// # Safety
+    /// The worker is below 64 and its deque has this size, above 0.
+    #[inline(always)]
+    unsafe fn work(&mut self, worker: usize, size: u16) {
+        let task = usize::from(*self.ends.get_unchecked(worker));
+        *self.pending.get_unchecked_mut(task) = 3;
+        let one = *self.first.get_unchecked(task);
+        let two = *self.second.get_unchecked(task);
+        let mut deque = (*self.next.get_unchecked(task), size - 1);
+        if two != 0 {
+            deque = self.release(two, deque);
+        }
+        if one != 0 {
+            deque = self.release(one, deque);
+        }
+        *self.ends.get_unchecked_mut(worker) = deque.0;
+        *self.ends.get_unchecked_mut(SIZES + worker) = deque.1;
+    }
+
+    /// A predecessor of the task was worked: where it was the last one, the task goes to the front of the deque (front and size).
+    ///
+    /// # Safety
+    /// The task is below 1,024.
+    #[inline(always)]
+    unsafe fn release(&mut self, task: u16, (front, size): (u16, u16)) -> (u16, u16) {
+        let at = usize::from(task);
+        let awaited = *self.pending.get_unchecked(at) - 1;
+        *self.pending.get_unchecked_mut(at) = awaited;
+        if awaited != 0 {
+            return (front, size);
+        }
+        *self.next.get_unchecked_mut(at) = front;
+        (task, size + 1)
+    }
+
+    /// The oldest muggable deque becomes the worker's.
+    ///
+    /// # Safety
+    /// Both are below 64.
+    #[inline(always)]
+    unsafe fn mug(&mut self, worker: usize, head: usize) {
+        *self.ends.get_unchecked_mut(worker) = *self.ends.get_unchecked(WORKERS + head);
+        *self.ends.get_unchecked_mut(SIZES + worker) =
+            *self.ends.get_unchecked(SIZES + WORKERS + head);
+    }
+
+    /// The back task of a deque of this size, two or more, becomes the thief's deque.
+    ///
+    /// # Safety
+    /// Both are below 64.
+    #[inline(always)]
+    unsafe fn steal(&mut self, thief: usize, victim: usize, size: u16) {
+        let mut task = *self.ends.get_unchecked(victim);
+        for _ in 1..size {
+            task = *self.next.get_unchecked(usize::from(task));
+        }
+        *self.ends.get_unchecked_mut(SIZES + victim) = size - 1;
+        *self.ends.get_unchecked_mut(thief) = task;
+        *self.ends.get_unchecked_mut(SIZES + thief) = 1;
+    }
+}

@@ -1,0 +1,151 @@
+//! The twin: document 01's job in plain Rust with the proved library's arrays, tuned for speed. It answers with document 01's numbers, 0
+//! for none, and leaves the job as it was where it refuses. Its numbers are fields of their native widths, moved in place.
+//!
+//! It skips bounds checks where an invariant of the job stands for them:
+//! - a task number in `first`, `second`, `ends` or `next` is below 1,024: acceptance checks the first two, and the others hold only those;
+//! - `workers` and `desire` are at most 64, `head` is below 64, `waiting` is at most 64.
+//!
+//! The fields are private, so nothing else can break them.
+
+mod calls;
+mod plan;
+mod text;
+
+/// At most this many tasks.
+pub const MOST_TASKS: usize = 1024;
+/// Places of workers in `ends`; as many places of a ring of muggable deques follow.
+const WORKERS: usize = 64;
+/// The size of the deque at a place stands so many behind its front.
+const SIZES: usize = 128;
+
+/// A job. The arrays are the proved library's, and mean the same.
+#[repr(C)]
+#[derive(Clone)]
+pub struct Job {
+    tables: Tables,
+    numbers: Numbers,
+}
+
+#[repr(C)]
+#[derive(Clone)]
+struct Tables {
+    first: [u16; MOST_TASKS],
+    second: [u16; MOST_TASKS],
+    pending: [u8; MOST_TASKS],
+    next: [u16; MOST_TASKS],
+    ends: [u16; 256],
+}
+
+#[repr(C)]
+#[derive(Clone, Copy, Default)]
+struct Numbers {
+    works: u64,
+    mugs: u64,
+    steals: u64,
+    successes: u64,
+    usage: u64,
+    head: usize,
+    waiting: usize,
+    tasks: u16,
+    done: u16,
+    quantum_length: u16,
+    ticks: u16,
+    begun: u16,
+    workers: u8,
+    responsiveness: u8,
+    utilization: u8,
+    desire: u8,
+    started: bool,
+    is_open: bool,
+}
+
+/// What a job shows, as values that can be compared.
+#[derive(Clone, Debug, PartialEq, Eq)]
+pub struct View {
+    pub worked: Vec<bool>,
+    pub deques: Vec<Vec<u16>>,
+    pub muggable: Vec<Vec<u16>>,
+    pub desire: usize,
+    pub open_quantum: Option<(u32, u64)>,
+    pub quanta_begun: u32,
+}
+
+impl Default for Job {
+    fn default() -> Job {
+        Job::blank()
+    }
+}
+
+impl Job {
+    /// Memory for a job, which is none until a plan is accepted. Every call but acceptance is refused, as for a finished job.
+    pub fn blank() -> Job {
+        Job {
+            tables: Tables {
+                first: [0; MOST_TASKS],
+                second: [0; MOST_TASKS],
+                pending: [0; MOST_TASKS],
+                next: [0; MOST_TASKS],
+                ends: [0; 256],
+            },
+            numbers: Numbers::default(),
+        }
+    }
+
+    /// The tasks of the deque at a place, front first.
+    fn deque(&self, place: usize) -> Vec<u16> {
+        let mut task = self.tables.ends[place];
+        let mut tasks = Vec::new();
+        for _ in 0..self.tables.ends[SIZES + place] {
+            tasks.push(task);
+            task = self.tables.next[usize::from(task)];
+        }
+        tasks
+    }
+
+    /// What the job shows.
+    pub fn view(&self) -> View {
+        let numbers = &self.numbers;
+        let ring = |age| WORKERS + (numbers.head + age) % WORKERS;
+        let tasks = usize::from(numbers.tasks);
+        View {
+            worked: self.tables.pending[..tasks]
+                .iter()
+                .map(|&p| p == 3)
+                .collect(),
+            deques: (0..usize::from(numbers.workers))
+                .map(|w| self.deque(w))
+                .collect(),
+            muggable: (0..numbers.waiting)
+                .map(|age| self.deque(ring(age)))
+                .collect(),
+            desire: usize::from(numbers.desire),
+            open_quantum: if numbers.is_open {
+                Some((u32::from(numbers.ticks), numbers.usage))
+            } else {
+                None
+            },
+            quanta_begun: u32::from(numbers.begun),
+        }
+    }
+
+    /// The status: 3 finished, 0 never granted, 2 held, 1 running.
+    #[inline(never)]
+    pub fn status(&self) -> u8 {
+        self.numbers.status_number()
+    }
+}
+
+impl Numbers {
+    #[inline(always)]
+    fn status_number(&self) -> u8 {
+        if self.done == self.tasks {
+            3
+        } else if !self.started {
+            0
+        } else if self.workers == 0 {
+            2
+        } else {
+            1
+        }
+    }
+}

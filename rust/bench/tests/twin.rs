@@ -1,0 +1,116 @@
+//! The twin against the second implementation, on its generated cases.
+
+use bench::twin::{Job, View};
+use reference::generator::cases;
+use reference::log::{run_log_with, Entry};
+use reference::{counters_line, wording, Job as Reference};
+
+/// The reference's job as the twin shows its own.
+fn view(job: &Reference) -> View {
+    let tasks = |deque: &reference::job::Deque| deque.iter().copied().collect();
+    View {
+        worked: job.worked().to_vec(),
+        deques: job.deques().iter().map(tasks).collect(),
+        muggable: job.muggable_deques().iter().map(tasks).collect(),
+        desire: job.desire(),
+        open_quantum: job
+            .open_quantum()
+            .map(|quantum| (quantum.ticks, quantum.usage)),
+        quanta_begun: job.quanta_begun(),
+    }
+}
+
+/// The line and the label, beside the state; the buffer's other bytes too.
+fn same_texts(twin: &Job, job: &Reference, refused: u64, sheet: &[u8], buffer: usize) {
+    let (mut here, mut there) = (vec![0xa5; buffer], vec![0xa5; buffer]);
+    let mut size = 7;
+    let number = twin.line(refused, &mut here, &mut size);
+    let line = counters_line(job, refused, &mut there);
+    assert_eq!(
+        (number, size),
+        line.map_or_else(|r| (r.number(), 0), |size| (0, size))
+    );
+    assert_eq!(here, there);
+    let (mut start, mut size) = (7, 7);
+    let number = twin.wording(sheet, &mut start, &mut size);
+    match wording(sheet, job.status()) {
+        Ok(part) => {
+            assert_eq!((number, &sheet[start..start + size]), (0, part));
+            assert_eq!(sheet[start..].as_ptr(), part.as_ptr());
+        }
+        Err(refusal) => assert_eq!((number, start, size), (refusal.number(), 0, 0)),
+    }
+    assert_eq!(twin.status(), job.status().number());
+}
+
+#[test]
+fn generated_cases() {
+    let mut twin = Job::blank();
+    for case in cases(7).take(4_000) {
+        let before = twin.view();
+        let number = twin.accept(&case.plan);
+        let mut job = match Reference::accept(&case.plan) {
+            Ok(job) => job,
+            Err(refusal) => {
+                assert_eq!((number, twin.view()), (refusal.number(), before));
+                continue;
+            }
+        };
+        assert_eq!((number, twin.view()), (0, view(&job)));
+        let mut stepped = twin.clone();
+        let mut entries = 0;
+        let outcome = run_log_with(&mut job, &case.log, |after, entry, answer| {
+            let number = match *entry {
+                Entry::Grant(workers) => stepped.grant(workers as u64),
+                Entry::Tick(choices) => stepped.tick(choices),
+            };
+            assert_eq!(
+                number,
+                answer.as_ref().err().map_or(0, |refusal| refusal.number())
+            );
+            entries += 1;
+            if entries < 3_000 || entries % 1_000 == 0 {
+                assert_eq!(stepped.view(), view(after));
+            }
+        });
+        let mut refused = 7;
+        let number = twin.run_log(&case.log, &mut refused);
+        assert_eq!(
+            (number, refused),
+            (outcome.broken.map_or(0, |r| r.number()), outcome.refused)
+        );
+        assert_eq!((twin.view(), stepped.view()), (view(&job), view(&job)));
+        same_texts(&twin, &job, refused, &case.sheet, case.buffer);
+        same_texts(&twin, &job, u64::MAX, &case.sheet.repeat(9), 128);
+    }
+}
+
+#[test]
+fn decimal_numbers() {
+    let plan = [0x15, 0x40, 0x00, 0x08, 0x00, 0, 0, 0];
+    let (mut twin, job) = (Job::blank(), Reference::accept(&plan).unwrap());
+    assert_eq!(twin.accept(&plan), 0);
+    let mut number = 1u64;
+    for _ in 0..20 {
+        for n in [number - 1, number, number + 1, number.saturating_mul(9)] {
+            same_texts(&twin, &job, n, b"", 128);
+        }
+        number = number.saturating_mul(10);
+    }
+    same_texts(&twin, &job, u64::MAX, b"", 128);
+}
+
+#[test]
+fn refused_plans_of_every_number() {
+    let mut numbers = [0u32; 11];
+    let mut twin = Job::blank();
+    for case in cases(11).take(20_000) {
+        let number = twin.accept(&case.plan);
+        let expected = Reference::accept(&case.plan)
+            .err()
+            .map_or(0, |refusal| refusal.number());
+        assert_eq!(number, expected);
+        numbers[usize::from(number)] += 1;
+    }
+    assert!(numbers.iter().all(|&n| n > 0), "{:?}", numbers);
+}
