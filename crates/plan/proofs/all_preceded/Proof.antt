@@ -8,8 +8,6 @@ use Rattle.plan.specs.Contracts.{one-or-two}
 use Rattle.plan.proofs.Arrays.{more-preceded}
 use Rattle.plan.proofs.all_preceded.Statement.{statement}
 use Rattle.plan.proofs.all_preceded.Tie as tie
-use Rattle.plan.proofs.all_preceded.Reads as reads
-use Rattle.plan.proofs.all_preceded.Lts as lts
 
 abbrev Inv-loop : tie.InvT-loop
 Inv-loop n counts all₀ t₀ all t = (1 ≤ t) × (t ≤ n) × (all ≡ every (one-or-two counts) (drop 1 (below t)))

@@ -7,8 +7,6 @@ use Rattle.plan.specs.Contracts.{followed}
 use Rattle.plan.proofs.Arrays.{more-followed}
 use Rattle.plan.proofs.one_exit.Statement.{statement}
 use Rattle.plan.proofs.one_exit.Tie as tie
-use Rattle.plan.proofs.one_exit.Reads as reads
-use Rattle.plan.proofs.one_exit.Lts as lts
 
 abbrev Inv-loop : tie.InvT-loop
 Inv-loop n first all₀ t₀ all t = (t + 1 ≤ n) × (all ≡ every (followed first) (below t))
