@@ -14,7 +14,7 @@ use Rattle.deque.specs.View.{view}
 use Rattle.deque.proofs.Views.{workers-shown}
 use Rattle.engine.specs.declared.Course.{Course}
 use Rattle.engine.specs.View.{plan-view, state-view}
-use Rattle.engine.specs.Courses.{counted, quantum-ended, CourseTicked}
+use Rattle.engine.specs.Courses.{counted, quantum-ended, SameCourse, CourseTicked}
 use Rattle.engine.proofs.Asking.{finished-shown}
 
 -- the tick counted
@@ -45,6 +45,12 @@ closed-course c desire =
       begun = c .begun;
     }
 
+-- what stays, field by field
+pub the-same : {c r : Course} → r .responsiveness ≡ c .responsiveness → r .utilization ≡ c .utilization →
+    r .«quantum_length» ≡ c .«quantum_length» → r .started ≡ c .started → r .begun ≡ c .begun → SameCourse c r
+the-same a b d e f =
+    record { same-responsiveness = a; same-utilization = b; same-length = d; same-started = e; same-begun = f }
+
 module _ (m : Numbers) (c : Course) (is-open : c .«is_open» ≡ true) where
   -- where the quantum does not end
   stays-open : (first second pending next ends : List ℕ) →
@@ -60,6 +66,7 @@ module _ (m : Numbers) (c : Course) (is-open : c .«is_open» ≡ true) where
   finished-ticked all-done =
       record {
         same-plan = λ first second tasks. refl;
+        same-course = the-same refl refl refl refl refl;
         shows = λ first second pending next ends right.
             stays-open first second pending next ends
             (rw (finished-shown pending next ends m right, eq-eqb (m .done) (m .tasks) all-done) refl);
@@ -71,6 +78,7 @@ module _ (m : Numbers) (c : Course) (is-open : c .«is_open» ≡ true) where
   unclosed-ticked more =
       record {
         same-plan = λ first second tasks. refl;
+        same-course = the-same refl refl refl refl refl;
         shows = λ first second pending next ends right.
             stays-open first second pending next ends
             (rw (ne-eqb (suc (c .ticks)) (c .«quantum_length») (λ h. more (add-one (c .ticks) ∙ h))) (and-false (not (finished (view pending next ends m)))));
@@ -84,6 +92,7 @@ module _ (m : Numbers) (c : Course) (is-open : c .«is_open» ≡ true) where
   closed-ticked undone last desire after =
       record {
         same-plan = λ first second tasks. refl;
+        same-course = the-same refl refl refl refl refl;
         shows = λ first second pending next ends right.
             rw (
               finished-shown pending next ends m right,

@@ -28,6 +28,7 @@ use Rattle.engine.specs.Reached.{Reached}
 use Rattle.engine.specs.Moves.{Moves, TickMoves}
 use Rattle.engine.proofs.Answers.{IsRefusal}
 use Rattle.engine.proofs.Asking.{tick-asking}
+use Rattle.engine.proofs.Ending.{the-same}
 use Rattle.engine.proofs.Graphs.{same-cycles, bare-sound, bare-placed}
 use Rattle.engine.proofs.Known.{known-sound, known-bounds, known-arranged, known-measured, known-numbers, known-power, few-tasks}
 use Rattle.engine.proofs.Moving.{moved-to, not-both, one-call-more, refused-moves, unchanged}
@@ -171,6 +172,7 @@ module _ {plan : Plan} {calls : List Call} {first second pending next ends : Lis
             (asked ∙ sym (tick-asking pending next ends m (r .kept .done-right) c choices))
             (no-tick .told);
         refusal = λ n h. unchanged answer;
+        keeps = record { same-tasks = refl; same-workers = refl; same-course = the-same refl refl refl refl refl };
       }
 
   module _ (is-accepted : answer ≡ Accepted) where
@@ -187,6 +189,7 @@ module _ {plan : Plan} {calls : List Call} {first second pending next ends : Lis
           moves =
               ticked-moves choices r no-refusal (done .shows) (done .within .same-tasks) (done .sound .sizes) (done .sound .kept) ended;
           refusal = λ n h. absurd (not-both n refl h);
+          keeps = record { same-tasks = done .within .same-tasks; same-workers = done .within .same-workers; same-course = ended .same-course };
         })
 
     -- no worker is granted
@@ -200,4 +203,5 @@ module _ {plan : Plan} {calls : List Call} {first second pending next ends : Lis
               (no-cycles (graph first second (m .tasks)) choices (view pending next ends m) (one-each choices r no-refusal ∙ nobody))
               refl (r .sizes) (r .kept) ended;
           refusal = λ n h. absurd (not-both n refl h);
+          keeps = record { same-tasks = refl; same-workers = refl; same-course = ended .same-course };
         })

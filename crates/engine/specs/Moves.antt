@@ -11,6 +11,7 @@ use Rattle.engine.specs.declared.Course.{Course}
 use Rattle.engine.specs.declared.Moved.{Moved}
 use Rattle.engine.specs.View.{plan-view, state-view}
 use Rattle.engine.specs.Answers.{answer-of}
+use Rattle.engine.specs.Courses.{SameCourse}
 use Rattle.engine.specs.Reached.{Reached}
 
 -- the call's promise: first and second are the plan's arrays; pending, next, ends, m, c what the call began with; the primed ones and
@@ -39,7 +40,14 @@ pub record GrantMoves (g : ℕ) (ends : List ℕ) (m : Numbers) (c : Course) (en
   pub refusal : (n : ℕ) → answer-of (moved .answer) ≡ refused n → (pending next : List ℕ) →
       Unchanged pending next ends m c pending next ends′ moved
 
+-- what no tick changes
+pub record TickKeeps (m : Numbers) (c : Course) (moved : Moved) : Type 0 where
+  pub same-tasks : moved .numbers .tasks ≡ m .tasks
+  pub same-workers : moved .numbers .workers ≡ m .workers
+  pub same-course : SameCourse c (moved .course)
+
 pub record TickMoves (choices first second pending next ends : List ℕ) (m : Numbers) (c : Course) (pending′ next′ ends′ : List ℕ)
     (moved : Moved) : Type 0 where
   pub moves : Moves (ticks choices) first second pending next ends m c pending′ next′ ends′ moved
   pub refusal : (n : ℕ) → answer-of (moved .answer) ≡ refused n → Unchanged pending next ends m c pending′ next′ ends′ moved
+  pub keeps : TickKeeps m c moved

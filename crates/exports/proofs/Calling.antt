@@ -13,12 +13,22 @@ use Rattle.engine.specs.View.{plan-view, state-view}
 use Rattle.engine.specs.declared.CallAnswer.the-variants.{Accepted}
 use Rattle.engine.specs.Answers.{answer-of}
 use Rattle.engine.specs.Reached.{Reached}
-use Rattle.engine.specs.Moves.{Moves, Unchanged}
+use Rattle.engine.specs.Moves.{Moves, Unchanged, TickKeeps}
 use Rattle.engine.proofs.Answers.{IsRefusal}
 use Rattle.engine.proofs.Moving.{not-both}
-use Rattle.memory.specs.Held.{numbers-in, course-in, plan-in, state-in, ReachedIn}
+use Rattle.memory.specs.Held.{numbers-in, course-in, plan-in, state-in, ReachedIn, Unticked}
 use Rattle.exports.specs.Steps.{Settled}
 use Rattle.exports.specs.Promises.{Calls}
+
+-- what a tick keeps of the numbers that were read it keeps of the words
+pub unticked : (words : List ℕ) {m : Numbers} {c : Course} {moved : Moved} → m ≡ numbers-in words → c ≡ course-in words → TickKeeps m c moved →
+    Unticked words (moved .numbers) (moved .course)
+unticked words same-numbers same-course keeps =
+    record {
+      same-tasks = rw same-numbers at keeps .same-tasks;
+      same-workers = rw same-numbers at keeps .same-workers;
+      same-course = rw same-course at keeps .same-course;
+    }
 
 -- the words after a refused call, and after an accepted one
 module _ (words : List ℕ) (moved : Moved) where

@@ -3,7 +3,7 @@
 ghost use mathlib.Core.Path.{_≡_};
 ghost use Rattle.model.specs.Machine.{ticks};
 ghost use Rattle.counters.specs.Line.{numbers-of};
-ghost use Rattle.memory.specs.Held.{Held, HeldWith, HeldWords};
+ghost use Rattle.memory.specs.Held.{Held, HeldWith, HeldWords, Unticked};
 ghost use Rattle.exports.specs.Steps.{least-of-65, Settled};
 ghost use Rattle.exports.specs.Promises.{Accepts, Calls, Grants, ShowsStatus, ShowsCounters, ShowsLine, ShowsWording};
 use counters::Counters;
@@ -12,8 +12,8 @@ use engine::CallAnswer;
 use engine::Moved;
 use label::Found;
 
-// The numbers that an accepted call left become the words; after a refused one the words stay. The number of the answer.
-fn settle(words: &mut [u64; 18], moved: Moved) -> u8
+// The numbers that an accepted grant left become the words; after a refused one the words stay. The number of the answer.
+fn settle_grant(words: &mut [u64; 18], moved: Moved) -> u8
     ensures { λ r. ⌜ Settled (now (words .entry)) moved (now (words .exit)) r ⌝ }
 {
     let answer = moved.answer;
@@ -23,6 +23,21 @@ fn settle(words: &mut [u64; 18], moved: Moved) -> u8
     let numbers = moved.numbers;
     let course = moved.course;
     memory::store(words, numbers, course);
+    0
+}
+
+// The same for a tick, which leaves some of the words as they are.
+fn settle_tick(words: &mut [u64; 18], moved: Moved) -> u8
+    requires { ⌜ Unticked (now words) (moved .numbers) (moved .course) ⌝ }
+    ensures { λ r. ⌜ Settled (now (words .entry)) moved (now (words .exit)) r ⌝ }
+{
+    let told = moved.answer;
+    let CallAnswer::Accepted = told else {
+        return engine::number(told);
+    };
+    let numbers = moved.numbers;
+    let course = moved.course;
+    memory::store_ticked(words, numbers, course);
     0
 }
 
@@ -85,7 +100,7 @@ pub extern "C" fn jirvaldo_core_grant(
     let m = memory::numbers_in(words);
     let c = memory::course_in(words);
     let moved = engine::grant(ends, m, c, at_most_65(workers));
-    settle(words, moved)
+    settle_grant(words, moved)
 }
 
 // A tick with a choice for each granted worker. Refused, the memory stays as it came.
@@ -105,7 +120,7 @@ pub extern "C" fn jirvaldo_core_tick(
     let m = memory::numbers_in(words);
     let c = memory::course_in(words);
     let moved = engine::tick(first, second, pending, next, ends, m, c, choices);
-    settle(words, moved)
+    settle_tick(words, moved)
 }
 
 // The status that the words show.

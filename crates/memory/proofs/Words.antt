@@ -9,7 +9,7 @@ use lib.Dec.{eqb}
 use mir.Val.{boolByte}
 use Rattle.deque.specs.declared.Numbers.{Numbers}
 use Rattle.engine.specs.declared.Course.{Course}
-use Rattle.memory.specs.Held.{numbers-in, course-in}
+use Rattle.memory.specs.Held.{word, numbers-in, course-in, Unticked}
 
 -- the words of a job's numbers
 abbrev pub words-of : Numbers → Course → List ℕ
@@ -73,3 +73,46 @@ course-back m c fit =
       half _ (fit .ticks),
       half _ (fit .begun),
     )
+
+-- ---- after a tick
+
+-- the words with what a tick can change, and the others as they were
+abbrev pub ticked-words : List ℕ → Numbers → Course → List ℕ
+ticked-words words m c =
+    word words 0
+    ∷ word words 1
+    ∷ m .done
+    ∷ m .works .0
+    ∷ m .mugs .0
+    ∷ m .steals .0
+    ∷ m .successes
+    ∷ m .usage
+    ∷ m .head
+    ∷ m .waiting
+    ∷ word words 10
+    ∷ word words 11
+    ∷ word words 12
+    ∷ c .desire
+    ∷ word words 14
+    ∷ boolByte (c .«is_open»)
+    ∷ c .ticks
+    ∷ word words 17
+    ∷ []
+
+module _ (words : List ℕ) (m : Numbers) (c : Course) (kept : Unticked words m c) where
+  pub numbers-after : NumbersFit m → numbers-in (ticked-words words m c) ≡ m
+  numbers-after fit = rw (← kept .same-tasks, ← kept .same-workers, half _ (fit .done))
+
+  pub course-after : CourseFits c → course-in (ticked-words words m c) ≡ c
+  course-after fit =
+      let same = kept .same-course in
+      rw (
+        ← same .same-responsiveness,
+        ← same .same-utilization,
+        ← same .same-length,
+        byte _ (fit .desire),
+        ← same .same-started,
+        flag (c .«is_open»),
+        half _ (fit .ticks),
+        ← same .same-begun,
+      )

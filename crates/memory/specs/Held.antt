@@ -1,4 +1,5 @@
 -- The job that lent memory holds: five arrays of the in-place core, and the words, which have the job's numbers.
+use mathlib.Core.Path.{_≡_}
 use mathlib.Core.Bool.{not}
 use mathlib.Core.List.{List}
 use Prim.Native.Nat.{ℕ, _%_, _^_}
@@ -9,6 +10,7 @@ use Rattle.model.specs.Machine.{State, Call}
 use Rattle.deque.specs.declared.Numbers.{Numbers}
 use Rattle.engine.specs.declared.Course.{Course}
 use Rattle.engine.specs.View.{plan-view, state-view}
+use Rattle.engine.specs.Courses.{SameCourse}
 use Rattle.engine.specs.Reached.{Reached, IsJob, IsJobWith}
 
 -- the word at a place, and the same cut to so many bits
@@ -68,3 +70,9 @@ HeldWith ends words = IsJobWith ends (numbers-in words) (course-in words)
 
 abbrev pub HeldWords : List ℕ → Type 0
 HeldWords words = (ends : List ℕ) × HeldWith ends words
+
+-- the numbers have what no tick changes as the words have it
+pub record Unticked (words : List ℕ) (m : Numbers) (c : Course) : Type 0 where
+  pub same-tasks : m .tasks ≡ numbers-in words .tasks
+  pub same-workers : m .workers ≡ numbers-in words .workers
+  pub same-course : SameCourse (course-in words) c

@@ -1,6 +1,6 @@
 // The numbers of a job in memory that the caller lends: `words`, beside the arrays of the in-place core. What is stored is read back.
 ghost use mathlib.Core.Path.{_≡_};
-ghost use Rattle.memory.specs.Held.{numbers-in, course-in};
+ghost use Rattle.memory.specs.Held.{numbers-in, course-in, Unticked};
 use deque::MugCycles;
 use deque::Numbers;
 use deque::StealCycles;
@@ -65,5 +65,33 @@ pub fn store(words: &mut [u64; 18], m: Numbers, c: Course)
         c.is_open as u64,
         c.ticks as u64,
         c.begun as u64,
+    ];
+}
+
+// The same after a tick: the words of what no tick changes stay as they are.
+pub fn store_ticked(words: &mut [u64; 18], m: Numbers, c: Course)
+    requires { ⌜ Unticked (now words) m c ⌝ }
+    ensures numbers { λ _. ⌜ numbers-in (now (words .exit)) ≡ m ⌝ }
+    ensures course { λ _. ⌜ course-in (now (words .exit)) ≡ c ⌝ }
+{
+    *words = [
+        words[0],
+        words[1],
+        m.done as u64,
+        m.works.0,
+        m.mugs.0,
+        m.steals.0,
+        m.successes,
+        m.usage,
+        m.head as u64,
+        m.waiting as u64,
+        words[10],
+        words[11],
+        words[12],
+        c.desire as u64,
+        words[14],
+        c.is_open as u64,
+        c.ticks as u64,
+        words[17],
     ];
 }

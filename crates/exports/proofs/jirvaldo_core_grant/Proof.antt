@@ -21,14 +21,14 @@ grant-requires c κs =
     let s = read .before .before .before .before in
     grantable (s .args .words .now) (read .before .before .numbers-in .ensures) (read .course-in .ensures) (s .pre)
 
-settle-requires : tie.Need-settle-requires
-settle-requires c κs = search needs
+settle-grant-requires : tie.Need-settle-grant-requires
+settle-grant-requires c κs = search needs
 
 returns : tie.Need-returns
 returns c =
     let moved = c .before .before in
     let read = moved .before .before .before in
-    granted _ _ _ _ (read .before .before .numbers-in .ensures) (read .course-in .ensures) (moved .before .at-most-65 .ensures) (moved .grant .ensures) (c .settle .ensures)
+    granted _ _ _ _ (read .before .before .numbers-in .ensures) (read .course-in .ensures) (moved .before .at-most-65 .ensures) (moved .grant .ensures) (c .settle-grant .ensures)
 
 pub jirvaldo-core-grant-spec : {M : Type 1} → statement M
 jirvaldo-core-grant-spec =
@@ -38,5 +38,5 @@ jirvaldo-core-grant-spec =
     course-in-requires
     at-most-65-requires
     grant-requires
-    settle-requires
+    settle-grant-requires
     returns)

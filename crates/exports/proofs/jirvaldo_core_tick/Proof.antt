@@ -2,7 +2,7 @@
 -- Assumes nothing.
 use borrow.Author.Needs.{needs}
 use Rattle.memory.proofs.Reading.{held-numbers}
-use Rattle.exports.proofs.Calling.{called}
+use Rattle.exports.proofs.Calling.{unticked, called}
 use Rattle.exports.proofs.jirvaldo_core_tick.Statement.{statement}
 use Rattle.exports.proofs.jirvaldo_core_tick.Tie as tie
 
@@ -18,16 +18,19 @@ tick-requires c κs =
     let s = read .before .before .before .before .before in
     held-numbers (s .args .words .now) (read .before .before .numbers-in .ensures) (read .course-in .ensures) (s .pre)
 
-settle-requires : tie.Need-settle-requires
-settle-requires c κs = search needs
+settle-tick-requires : tie.Need-settle-tick-requires
+settle-tick-requires c κs =
+    let moved = c .before in
+    let read = moved .before .before .before .before in
+    unticked _ (read .before .before .numbers-in .ensures) (read .course-in .ensures) (moved .tick .ensures .keeps)
 
 returns : tie.Need-returns
 returns c =
     let moved = c .before .before in
     let read = moved .before .before .before .before in
-    called _ _ _ _ _ _ _ _ _ _ _ (read .before .before .numbers-in .ensures) (read .course-in .ensures) (moved .tick .ensures .moves) (moved .tick .ensures .refusal) (c .settle .ensures)
+    called _ _ _ _ _ _ _ _ _ _ _ (read .before .before .numbers-in .ensures) (read .course-in .ensures) (moved .tick .ensures .moves) (moved .tick .ensures .refusal) (c .settle-tick .ensures)
 
 pub jirvaldo-core-tick-spec : {M : Type 1} → statement M
 jirvaldo-core-tick-spec =
     tie.close
-    (tie.spec numbers-in-requires course-in-requires tick-requires settle-requires returns)
+    (tie.spec numbers-in-requires course-in-requires tick-requires settle-tick-requires returns)

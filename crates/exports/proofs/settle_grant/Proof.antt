@@ -1,10 +1,10 @@
--- `exports::settle` meets its contract: a refused call leaves the words, an accepted one stores what it left.
+-- `exports::settle_grant` meets its contract: a refused grant leaves the words, an accepted one stores what it left.
 -- Assumes nothing.
 use borrow.Author.Needs.{needs}
 use Rattle.engine.proofs.Answers.{refusing}
 use Rattle.exports.proofs.Calling.{kept-words, stored-words}
-use Rattle.exports.proofs.settle.Statement.{statement}
-use Rattle.exports.proofs.settle.Tie as tie
+use Rattle.exports.proofs.settle_grant.Statement.{statement}
+use Rattle.exports.proofs.settle_grant.Tie as tie
 
 enum-told : tie.Need-enum-told
 enum-told c = search needs
@@ -21,5 +21,5 @@ store-requires c κs = search needs
 returns-2 : tie.Need-returns-2
 returns-2 c = stored-words _ _ _ (c .before .before .before .before .enum-told .given .1) (c .store .ensures .0) (c .store .ensures .1)
 
-pub settle-spec : {M : Type 1} → statement M
-settle-spec = tie.close (tie.spec enum-told number-requires returns store-requires returns-2)
+pub settle-grant-spec : {M : Type 1} → statement M
+settle-grant-spec = tie.close (tie.spec enum-told number-requires returns store-requires returns-2)
