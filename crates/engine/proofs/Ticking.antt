@@ -5,6 +5,7 @@ use mathlib.Core.Bool.{Bool, true, false}
 use mathlib.Core.List.{List, [], _∷_}
 use Prim.Native.Nat.{ℕ, _+_, _≤_, _<_}
 use native.Mathlib.Omega.{arith}
+use borrow.Author.Tests.{eqb-false}
 use lib.ListN.{length}
 use Rattle.model.specs.Questions.{accepted, first-no}
 use Rattle.model.specs.Plan.{Plan}
@@ -27,7 +28,7 @@ use Rattle.engine.specs.Courses.{counted, quantum-ended, Countable, Cour
 use Rattle.engine.specs.Reached.{Reached}
 use Rattle.engine.specs.Moves.{Moves, TickMoves}
 use Rattle.engine.proofs.Answers.{IsRefusal}
-use Rattle.engine.proofs.Asking.{tick-asking}
+use Rattle.engine.proofs.Asking.{finished-shown, tick-asking}
 use Rattle.engine.proofs.Ending.{the-same}
 use Rattle.engine.proofs.Graphs.{same-cycles, bare-sound, bare-placed}
 use Rattle.engine.proofs.Known.{known-sound, known-bounds, known-arranged, known-measured, known-numbers, known-power, few-tasks}
@@ -106,6 +107,7 @@ module _ {plan : Plan} {calls : List Call} {first second pending next ends : Lis
         sound = sound-job some;
         one-each = one-each;
         all-workers = simp workers-shown at (facts .below-allotment);
+        unfinished = eqb-false (m .done) (m .tasks) (sym (finished-shown pending next ends m (r .kept .done-right)) ∙ facts .unfinished);
         room = room;
       }
 

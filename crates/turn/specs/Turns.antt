@@ -186,12 +186,28 @@ pub record Cycled (first second pending next ends : List ℕ) (m : Numbers) (w c
   -- the cycle is of one kind
   pub one-kind : m′ .works .0 + m′ .mugs .0 + m′ .steals .0 ≡ (m .works .0 + m .mugs .0 + m .steals .0) + 1
 
+-- ---- the cycle of a worker whose deque is empty
+
+-- of arrays and numbers that are sound with some other arrays
+pub record IdleTurn (next ends : List ℕ) (m : Numbers) (w choice : ℕ) : Type 0 where
+  pub first : List ℕ
+  pub second : List ℕ
+  pub pending : List ℕ
+  pub turn : ChoiceTurn first second pending next ends m w choice
+
+-- the promise, with all of these; no task is worked
+pub record Idled (next ends : List ℕ) (m : Numbers) (w choice : ℕ) (ends′ : List ℕ) (m′ : Numbers) : Type 0 where
+  pub cycled : (first second pending : List ℕ) → ChoiceTurn first second pending next ends m w choice → getD ends (size-at w) 0 ≡ 0 →
+      Cycled first second pending next ends m w choice pending next ends′ m′
+  pub same-done : m′ .done ≡ m .done
+
 -- ---- a tick's cycles
 
 pub record TickTurn (first second pending next ends : List ℕ) (m : Numbers) (choices : List ℕ) : Type 0 where
   pub sound : Sound first second pending next ends m
   pub one-each : length choices ≡ m .workers
   pub all-workers : every (λ choice. ltb choice (m .workers)) choices ≡ true
+  pub unfinished : m .done ≡ m .tasks → ⊥
   pub room : Room count-limit m
 
 pub record Ticked (first second pending next ends : List ℕ) (m : Numbers) (choices pending′ next′ ends′ : List ℕ) (m′ : Numbers) : Type 0 where

@@ -6,7 +6,7 @@ use deque::StealCycles;
 use deque::WorkCycles;
 ghost use mathlib.Core.Path.{_≡_};
 ghost use Prim.Native.Nat.{_+_, _≤_, _<_};
-ghost use Rattle.turn.specs.Turns.{add-work, add-mug, add-steal, numbers-at, Counted, Growing, Addable, MugTurn, Mugged, StealTurn, Stolen, WorkTurn, Worked, ChoiceTurn, Cycled, TickTurn, Ticked};
+ghost use Rattle.turn.specs.Turns.{add-work, add-mug, add-steal, numbers-at, Counted, Growing, Addable, MugTurn, Mugged, StealTurn, Stolen, WorkTurn, Worked, IdleTurn, Idled, TickTurn, Ticked};
 
 // What the cycles of a tick so far add to the numbers.
 pub struct Tally {
@@ -155,25 +155,18 @@ pub fn work_cycle(
     add_work(t)
 }
 
-// One cycle of the worker `w`: it works if its deque is not empty, else mugs if a muggable deque waits, else steals from `choice`.
-pub fn cycle(
-    first: &[u16; 1024],
-    second: &[u16; 1024],
-    pending: &mut [u8; 1024],
-    next: &mut [u16; 1024],
+// One cycle of the worker `w`, whose deque is empty: it mugs if a muggable deque waits, else steals from `choice`.
+pub fn idle_cycle(
+    next: &[u16; 1024],
     ends: &mut [u16; 256],
     w: usize,
     choice: usize,
     m: Numbers,
     t: Tally,
 ) -> Tally
-    requires { ⌜ (m .head < 64) × Counted m w t × ChoiceTurn (now first) (now second) (now pending) (now next) (now ends) (numbers-at m w t) w choice ⌝ }
-    ensures { λ r. ⌜ Cycled (now (first .entry)) (now (second .entry)) (now (pending .entry)) (now (next .entry)) (now (ends .entry)) (numbers-at m w t) w choice (now (pending .exit)) (now (next .exit)) (now (ends .exit)) (numbers-at m (w + 1) r) ⌝ }
+    requires { ⌜ (m .head < 64) × Counted m w t × IdleTurn (now next) (now ends) (numbers-at m w t) w choice ⌝ }
+    ensures { λ r. ⌜ Idled (now (next .entry)) (now (ends .entry)) (numbers-at m w t) w choice (now (ends .exit)) (numbers-at m (w + 1) r) ⌝ }
 {
-    let own = deque::deque_at(ends, w);
-    if own.size > 0 {
-        return work_cycle(first, second, pending, next, ends, w, t);
-    }
     let mugged = t.mugs.0 as usize;
     if mugged < m.waiting {
         return mug_cycle(ends, w, m, t);
@@ -181,7 +174,8 @@ pub fn cycle(
     steal_cycle(next, ends, w, choice, t)
 }
 
-// The cycles of a tick: the workers in number order, one cycle each, with a choice each, until the job is finished.
+// The cycles of a tick: the workers in number order, one cycle each, with a choice each, until the job is finished. Only a work cycle can finish
+// it. A worker whose deque is not empty works.
 pub fn cycles(
     first: &[u16; 1024],
     second: &[u16; 1024],
@@ -202,11 +196,16 @@ pub fn cycles(
     };
     let mut w = 0;
     while w < choices.len() {
-        if t.works.0 == left {
-            return numbers_at(m, w, t);
+        let own = deque::deque_at(ends, w);
+        if own.size > 0 {
+            t = work_cycle(first, second, pending, next, ends, w, t);
+            if t.works.0 == left {
+                return numbers_at(m, w + 1, t);
+            }
+        } else {
+            let choice = choices[w] as usize;
+            t = idle_cycle(next, ends, w, choice, m, t);
         }
-        let choice = choices[w] as usize;
-        t = cycle(first, second, pending, next, ends, w, choice, m, t);
         w += 1;
     }
     numbers_at(m, w, t)
