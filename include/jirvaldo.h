@@ -4,7 +4,8 @@
  * L ticks; in each tick every granted worker takes one cycle. A function answers with 0, or with the number of the refusal; the first
  * question that is answered by no gives the number. Nothing is allocated, nothing is kept between calls, no file is read or written.
  *
- * Proved, for all that a caller can hand over: the jirvaldo_core functions in the archive (crates/exports/specs/Promises.antt).
+ * Proved, for all that a caller can hand over: the jirvaldo_core functions in the archive (crates/exports/specs/Promises.antt
+ * and, for a log, crates/exports_log/specs/Promise.antt).
  * Not proved: the inline functions of this file, which only hand the parts of a job to those, and what is asked of you:
  *   - a job that is handed over holds an accepted plan's job, moved by these functions or not, or a byte copy of one;
  *   - a pointer is valid for its size, and what it points to overlaps neither the job nor what another pointer of the call points to;
