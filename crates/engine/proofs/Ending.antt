@@ -65,7 +65,6 @@ module _ (m : Numbers) (c : Course) (is-open : c .«is_open» ≡ true) where
   unfolding closes plan-view
   finished-ticked all-done =
       record {
-        same-plan = λ first second tasks. refl;
         same-course = the-same refl refl refl refl refl;
         shows = λ first second pending next ends right.
             stays-open first second pending next ends
@@ -77,7 +76,6 @@ module _ (m : Numbers) (c : Course) (is-open : c .«is_open» ≡ true) where
   unfolding closes plan-view
   unclosed-ticked more =
       record {
-        same-plan = λ first second tasks. refl;
         same-course = the-same refl refl refl refl refl;
         shows = λ first second pending next ends right.
             stays-open first second pending next ends
@@ -91,7 +89,6 @@ module _ (m : Numbers) (c : Course) (is-open : c .«is_open» ≡ true) where
   unfolding state-view quantum-ended closes closed plan-view
   closed-ticked undone last desire after =
       record {
-        same-plan = λ first second tasks. refl;
         same-course = the-same refl refl refl refl refl;
         shows = λ first second pending next ends right.
             rw (

@@ -24,7 +24,7 @@ use Rattle.engine.specs.declared.CallAnswer.the-variants.{Accepted}
 use Rattle.engine.specs.Answers.{answer-of}
 use Rattle.engine.specs.View.{quantum-view, plan-view, state-view}
 use Rattle.engine.specs.Asked.{tick-asked}
-use Rattle.engine.specs.Courses.{counted, quantum-ended, Countable, CourseTicked}
+use Rattle.engine.specs.Courses.{counted, quantum-ended, Countable, SameCourse, CourseTicked}
 use Rattle.engine.specs.Reached.{Reached}
 use Rattle.engine.specs.Moves.{Moves, TickMoves}
 use Rattle.engine.proofs.Answers.{IsRefusal}
@@ -35,6 +35,11 @@ use Rattle.engine.proofs.Known.{known-sound, known-bounds, known-arrang
 use Rattle.engine.proofs.Moving.{moved-to, not-both, one-call-more, refused-moves, unchanged}
 
 -- ---- an accepted tick
+
+-- a tick leaves the plan
+same-plan : (first second : List ℕ) (tasks : ℕ) {c r : Course} → SameCourse c r → plan-view first second tasks r ≡ plan-view first second tasks c
+unfolding plan-view
+same-plan first second tasks same = rw (same .same-responsiveness, same .same-utilization, same .same-length)
 
 -- an open quantum's flag is set
 flag-set : (b : Bool) (k j : ℕ) → quantum-view b k ≡ opened j → b ≡ true
@@ -152,7 +157,7 @@ module _ {plan : Plan} {calls : List Call} {first second pending next ends : Lis
           stepped = ticked-stepped;
           reached = λ plan calls r.
               one-call-more r (ticks choices) pending′ next′ ends′ m′ c′ ticked-stepped
-              (ended .same-plan first second (m′ .tasks) ∙ ap (λ (n : ℕ). plan-view first second n c) same-tasks)
+              (same-plan first second (m′ .tasks) (ended .same-course) ∙ ap (λ (n : ℕ). plan-view first second n c) same-tasks)
               sizes kept;
         }
 

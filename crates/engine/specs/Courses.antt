@@ -52,7 +52,6 @@ pub record SameCourse (c r : Course) : Type 0 where
 
 -- the tick is counted and, where it was the quantum's last, the quantum closed. The numbers are those after the tick's cycles.
 pub record CourseTicked (m : Numbers) (c r : Course) : Type 0 where
-  pub same-plan : (first second : List ℕ) (tasks : ℕ) → plan-view first second tasks r ≡ plan-view first second tasks c
   pub shows : (first second pending next ends : List ℕ) → m .done ≡ count-set (worked-view pending (m .tasks)) →
       state-view pending next ends m r ≡ quantum-ended (plan-view first second (m .tasks) c) (counted (view pending next ends m) c)
   pub same-course : SameCourse c r
