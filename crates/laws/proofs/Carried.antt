@@ -1,7 +1,8 @@
 -- What one induction over the list of calls carries for demand 3: the open quantum agrees with the state, the desire is a power of the
--- responsiveness, the stack of unused quanta has one for each power below it, and the balance of the mugs holds at that power.
+-- responsiveness, the stack of unused quanta has one for each power below it, and the balance of the mugs holds at that power. The open
+-- quantum's agreement gives that a quantum's end is recorded as the state judges it.
 -- Assumes a sound plan, and progress after every list of calls.
-use mathlib.Core.Path.{_≡_, sym, ap}
+use mathlib.Core.Path.{_≡_, refl, sym, ap}
 use mathlib.Core.Bool.{true}
 use mathlib.Core.List.{List}
 use Prim.Native.Nat.{ℕ}
@@ -9,12 +10,12 @@ use native.Mathlib.Omega.{arith}
 use native.Mathlib.Nat.{pow-zero}
 use Rattle.model.specs.Questions.{accepted}
 use Rattle.model.specs.Plan.{Plan}
-use Rattle.model.specs.Machine.{Call, grants, ticks, call-answer, no-quantum-open, fresh, grant, ticked, closes}
-use Rattle.model.specs.History.{History, beginning, history-grant, run}
-use Rattle.model.specs.Statements.{SoundPlan, Progress}
+use Rattle.model.specs.Machine.{Call, grants, ticks, call-answer, no-quantum-open, fresh, grant, ticked, closes, closed, tick}
+use Rattle.model.specs.History.{History, beginning, history-grant, history-tick, history-step, run}
+use Rattle.model.specs.Statements.{SoundPlan, Progress, ending, EndsAsRecorded}
 use Rattle.laws.proofs.Steps.{grant-accepted, tick-accepted}
 use Rattle.laws.proofs.Runs.{history-ticked, history-closed, step-execution, by-moves}
-use Rattle.laws.proofs.Powers.{Phase, phase-start, phase-granted, phase-ticked, phase-closed, Progressing, ending, at-end, Power, ended}
+use Rattle.laws.proofs.Powers.{Phase, phase-start, phase-granted, phase-ticked, phase-closed, Progressing, at-end, Power, ended}
 use Rattle.laws.proofs.PairingLaw.{Stacked, stacked-none, stacked-end}
 use Rattle.laws.proofs.MugLimitLaw.{Balance, balance-start, balance-granted, balance-ticked, balance-closed}
 
@@ -91,3 +92,12 @@ module _ (plan : Plan) (sound : SoundPlan plan) where
       (λ calls g answer c. carried-granted g (run plan calls) answer c)
       (λ calls choices answer c. carried-ticked choices (run plan calls) (progress calls) answer c)
       carried-closed
+
+  -- the quantum that a tick closes was begun with the desire and the allotment that the state still shows
+  pub ends-as-recorded : (h : History) → Progress plan h → Carried plan h → EndsAsRecorded plan h
+  unfolding history-step history-tick tick closed
+  ends-as-recorded h progress c choices answer closing =
+      let asked = tick-accepted choices (h .state) answer in
+      let open-still = phase-ticked plan choices h asked (progressing choices h progress answer) (c .phase) in
+      let here = at-end plan sound (history-ticked plan choices h) closing open-still in
+      record { recorded = rw (answer, closing, here .verdict-is) refl; moved = rw (answer, closing) refl }

@@ -138,10 +138,10 @@ unfolding largest-closed
 largest-append [] ys = omega arith
 largest-append (q ∷ xs) ys = omega (arith, largest-append xs ys)
 
-largest-verdict : (plan : Plan) (current : CurrentQuantum) (s : State) → largest-closed (verdict plan current s) ≡ granted-in current
+largest-verdict : (plan : Plan) (current : CurrentQuantum) (usage : ℕ) → largest-closed (verdict plan current usage) ≡ granted-in current
 unfolding largest-closed
-largest-verdict plan none s = refl
-largest-verdict plan (begun-with wanted granted) s = omega arith
+largest-verdict plan none usage = refl
+largest-verdict plan (begun-with wanted granted) usage = omega arith
 
 -- a tick grants nothing
 tick-largest : (plan : Plan) (choices : List ℕ) (h : History) → largest-granted (history-tick plan choices h) ≡ largest-granted h
@@ -151,10 +151,14 @@ tick-largest plan choices h = go (closes plan after)
     after : State
     after = ticked plan choices (h .state)
 
+    judged : List ClosedQuantum
+    judged = verdict plan (h .current) (after .execution .counts .usage)
+
     go : (b : Bool) →
-        max (largest-closed (cond b (h .closed-quanta ++ verdict plan (h .current) after) (h .closed-quanta))) (granted-in (cond b none (h .current)))
+        max (largest-closed (cond b (h .closed-quanta ++ judged) (h .closed-quanta))) (granted-in (cond b none (h .current)))
         ≡ max (largest-closed (h .closed-quanta)) (granted-in (h .current))
-    go true = omega (arith, largest-append (h .closed-quanta) (verdict plan (h .current) after), largest-verdict plan (h .current) after)
+    go true =
+        omega (arith, largest-append (h .closed-quanta) judged, largest-verdict plan (h .current) (after .execution .counts .usage))
     go false = refl
 
 record Largest (plan : Plan) (h : History) : Type 0 where

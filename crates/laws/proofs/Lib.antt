@@ -3,7 +3,8 @@
 -- Cycles, Placement, Bounds, Grants: what a worker's cycle, a tick's cycles and a grant keep.
 -- Steps, Runs: accepted calls, and how a property is carried through a list of calls. Histories: where the tasks stand and how large the
 -- counts are after any calls. Progress: some worker works or mugs. Order: each task once and in order. Meaning: what the counts count.
--- Counting: what a tick and a grant do to the counts. Powers: the open quantum, and what a quantum's end does to the desire.
+-- Counting: what a tick and a grant do to the counts. Powers: the open quantum, and what a quantum's end does to the desire. Tops: the
+-- table of top desires, and that the desire stops there.
 -- PairingLaw: the partners of the inefficient quanta. MugLimitLaw: the balance that bounds the mugs. Carried: these in one induction.
 pub mod Lists
 pub mod Readiness
@@ -20,6 +21,7 @@ pub mod Order
 pub mod Runs
 pub mod Counting
 pub mod Powers
+pub mod Tops
 pub mod PairingLaw
 pub mod MugLimitLaw
 pub mod Carried

@@ -13,9 +13,9 @@ use lib.ListN.{length}
 use Rattle.model.specs.Plan.{Plan}
 use Rattle.model.specs.Machine.{State, Quantum, idle, opened, allotment, no-quantum-open, fresh, grant, ticked, closed}
 use Rattle.model.specs.History.{ClosedQuantum, History}
-use Rattle.model.specs.Statements.{MugLimit, MugBound}
+use Rattle.model.specs.Statements.{MugLimit, MugBound, ending}
 use Rattle.laws.proofs.Counting.{spent, cycles-counted, granted}
-use Rattle.laws.proofs.Powers.{QuantumEnd, lowers, raises, stays, ending}
+use Rattle.laws.proofs.Powers.{QuantumEnd, lowers, raises, stays}
 
 -- ---- the balance
 

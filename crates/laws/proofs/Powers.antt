@@ -12,7 +12,7 @@ use borrow.Author.Tests.{leb-true, leb-false, eqb-true}
 use Rattle.model.specs.Plan.{Plan}
 use Rattle.model.specs.Machine.{State, idle, opened, allotment, finished, no-quantum-open, ticks-of, fresh, grant, cycles, ticked, closes, closed, efficient, satisfied, efficient-now, satisfied-now, next-desire, most-workers}
 use Rattle.model.specs.History.{History, ClosedQuantum, none, begun-with, verdict, beginning, history-grant}
-use Rattle.model.specs.Statements.{SoundPlan}
+use Rattle.model.specs.Statements.{SoundPlan, ending}
 use Rattle.laws.proofs.Steps.{GrantAccepted, TickAccepted}
 use Rattle.laws.proofs.Runs.{history-ticked, history-closed}
 use Rattle.laws.proofs.Counting.{spent, cycles-counted, granted}
@@ -79,18 +79,9 @@ phase-closed plan h = between refl refl
 
 -- ---- the quantum that closes
 
--- the quantum that closes in a state
-abbrev pub ending : Plan → State → ClosedQuantum
-ending plan s =
-    record {
-      wanted = s .desire;
-      granted = allotment s;
-      was-efficient = efficient-now plan s;
-      was-satisfied = satisfied-now s;
-    }
-
 pub record Closing (plan : Plan) (h : History) : Type 0 where
-  pub verdict-is : verdict plan (h .current) (h .state) ≡ ending plan (h .state) ∷ []
+  -- what the history records of it, from the counts with which it began, is what the state shows at its end
+  pub verdict-is : verdict plan (h .current) (h .state .execution .counts .usage) ≡ ending plan (h .state) ∷ []
   pub open-at-end : no-quantum-open (h .state .quantum) ≡ false
   pub no-more : allotment (h .state) ≤ h .state .desire
   pub used : 1 ≤ allotment (h .state) → plan .quantum-length ≤ h .state .execution .counts .usage
@@ -113,7 +104,7 @@ module _ (plan : Plan) (sound : SoundPlan plan) (h : History) (closing : closes 
       let last = last-tick plan (h .state) closing in
       let had : ticks-of (h .state .quantum) ≡ t = ap ticks-of (w .ticks-had) in
       record {
-        verdict-is = ap (λ c. verdict plan c (h .state)) (w .as-begun);
+        verdict-is = ap (λ c. verdict plan c (h .state .execution .counts .usage)) (w .as-begun);
         open-at-end = ap no-quantum-open (w .ticks-had);
         no-more = w .no-more;
         used = λ some. omega (arith, w .used some);

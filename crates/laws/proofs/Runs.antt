@@ -45,7 +45,7 @@ abbrev pub history-closed : Plan → History → History
 history-closed plan h =
     record {
       state = closed plan (h .state);
-      closed-quanta = h .closed-quanta ++ verdict plan (h .current) (h .state);
+      closed-quanta = h .closed-quanta ++ verdict plan (h .current) (h .state .execution .counts .usage);
       current = none;
       made = h .made;
     }
@@ -63,7 +63,8 @@ tick-moves plan P choices h open-still ended = go (closes plan (ticked plan choi
         (record {
           state = cond b (closed plan (ticked plan choices (h .state))) (ticked plan choices (h .state));
           closed-quanta =
-              cond b (h .closed-quanta ++ verdict plan (h .current) (ticked plan choices (h .state))) (h .closed-quanta);
+              cond b (h .closed-quanta ++ verdict plan (h .current) (ticked plan choices (h .state) .execution .counts .usage))
+              (h .closed-quanta);
           current = cond b none (h .current);
           made = h .made ++ cycles-made plan 0 choices (h .state .execution);
         })

@@ -7,12 +7,15 @@ use Rattle.model.specs.Plan.{Plan, tasks}
 use Rattle.model.specs.Machine.{Call}
 use Rattle.model.specs.History.{run}
 use Rattle.model.specs.Statements.{SoundPlan, Progress, Demand3, MugBound, OneIsEfficient, DesireIsPower, OnceAndInOrder, FinishedExactly}
+use Rattle.model.specs.Statements.{StopsAtTop, EndsAsRecorded}
 use Rattle.laws.specs.Invariants.{Bounded}
 use Rattle.laws.specs.Reached.{Arranged, Measured, CountsFit, largest-granted}
 use Rattle.laws.specs.Meaning.{CountsMean, UsageMeans}
 use Rattle.laws.proofs.PairingLaw.{pairing-of}
 use Rattle.laws.proofs.MugLimitLaw.{mug-limit-of, mug-bound-of}
 use Rattle.laws.proofs.Carried.{Carried, carried}
+use Rattle.laws.proofs.Carried as Carried
+use Rattle.laws.proofs.Tops as Tops
 use Rattle.laws.proofs.Progress as Progress
 use Rattle.laws.proofs.Order as Order
 use Rattle.laws.proofs.Histories as Histories
@@ -46,6 +49,15 @@ module _ {plan : Plan} (sound : SoundPlan plan) (calls : List Call) where
   desire-is-power =
       let c = carries in
       record { power = c .power; is-power = c .desire .is-power; at-most = c .desire .at-most }
+
+  -- "So it stops at the largest powers of R up to 64, for R = 2 to 7": the desire never exceeds the table's entry; an efficient and
+  -- satisfied end multiplies it by R below the entry, and leaves it at the entry
+  pub stops-at-top : plan .responsiveness ≤ 7 → StopsAtTop plan (run plan calls)
+  stops-at-top three-bits = Tops.stops-at-top sound three-bits desire-is-power
+
+  -- what the history keeps of a quantum that closes is what the state shows, and the desire moves by the verdict kept
+  pub ends-as-recorded : EndsAsRecorded plan (run plan calls)
+  ends-as-recorded = Carried.ends-as-recorded plan sound (run plan calls) progress carries
 
   -- "Each piece is worked at most once, after all before it"; the state shows exactly those of the order
   pub once-and-in-order : OnceAndInOrder plan (run plan calls)

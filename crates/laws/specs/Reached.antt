@@ -65,4 +65,4 @@ pub record CountsFit (s : State) : Type 0 where
   pub usage : s .execution .counts .usage ≤ 4194240
   pub all-cycles : cycles-counted (s .execution .counts) ≤ 274869518400
   pub successes : s .execution .counts .successes ≤ 274869518400
-  pub begun : s .begun ≤ 65535
+  pub begun : s .begun ≤ quantum-limit

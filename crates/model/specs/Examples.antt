@@ -259,6 +259,8 @@ grant-rows =
     ∷ row (shown plan-a (0 ∷ 0x80 ∷ 0x80 ∷ [])) (0 ∷ 0 ∷ 4 ∷ 1 ∷ 0 ∷ 0 ∷ 0 ∷ 0 ∷ 0 ∷ 0 ∷ [])
     -- 13, before 14
     ∷ row (answer-number (first-no (grant-questions 1 (fresh-with 65534))) ∷ answer-number (first-no (grant-questions 1 (fresh-with 65535))) ∷ answer-number (first-no (grant-questions 2 (fresh-with 65535))) ∷ []) (0 ∷ 13 ∷ 13 ∷ [])
+    -- the last round is open: 12 comes before 13
+    ∷ row (answer-number (first-no (grant-questions 1 (step (plan-of plan-a) (grants 1) (fresh-with 65534)))) ∷ []) (12 ∷ [])
     -- piece 0 in worker 0's line, and not as an orphan
     ∷ row (placed plan-a (grants 1 ∷ [])) (1 ∷ 0 ∷ [])
     -- so the first tick is a work tick and no mug tick
@@ -282,6 +284,8 @@ tick-rows : List Row
 tick-rows =
     -- a choice is asked of a worker that works, too
     row (answered plan-a [] (ticks []) ++ flatMap (answered plan-a (grants 1 ∷ [])) (ticks [] ∷ ticks (9 ∷ 9 ∷ []) ∷ ticks (1 ∷ []) ∷ ticks (0 ∷ []) ∷ [])) (15 ∷ 16 ∷ 16 ∷ 17 ∷ 0 ∷ [])
+    -- no round is open, and a choice too many for no worker: 15 comes before 16
+    ∷ row (answered plan-a [] (ticks (0 ∷ []))) (15 ∷ [])
     -- a refused tick takes no tick of the round: the grant meets 12
     ∷ row (shown plan-a (1 ∷ 0x81 ∷ 5 ∷ 0x81 ∷ 0 ∷ 1 ∷ [])) (1 ∷ 1 ∷ 4 ∷ 1 ∷ 1 ∷ 1 ∷ 0 ∷ 0 ∷ 0 ∷ 2 ∷ [])
     -- "first" is the field, not the smaller number
@@ -351,7 +355,7 @@ log-rows =
     ∷ row (labelled [] 0 ++ labelled (10 ∷ []) 0) (19 ∷ 0 ∷ 0 ∷ 0 ∷ 0 ∷ 0 ∷ [])
     ∷ row (flatMap decimal (0 ∷ 9 ∷ 10 ∷ 109 ∷ 18446744073709551615 ∷ [])) (48 ∷ 57 ∷ 49 ∷ 48 ∷ 49 ∷ 48 ∷ 57 ∷ 49 ∷ 56 ∷ 52 ∷ 52 ∷ 54 ∷ 55 ∷ 52 ∷ 52 ∷ 48 ∷ 55 ∷ 51 ∷ 55 ∷ 48 ∷ 57 ∷ 53 ∷ 53 ∷ 49 ∷ 54 ∷ 49 ∷ 53 ∷ [])
     -- bytes after the line do not change
-    ∷ row (buffer-after (plan-of plan-a) (fresh (plan-of plan-a)) 0 (replicate 130 7)) (48 ∷ 32 ∷ 48 ∷ 32 ∷ 52 ∷ 32 ∷ 49 ∷ 32 ∷ 48 ∷ 32 ∷ 48 ∷ 32 ∷ 48 ∷ 32 ∷ 48 ∷ 32 ∷ 48 ∷ 32 ∷ 48 ∷ 10 ∷ 7 ∷ 7 ∷ 7 ∷ 7 ∷ 7 ∷ 7 ∷ 7 ∷ 7 ∷ 7 ∷ 7 ∷ 7 ∷ 7 ∷ 7 ∷ 7 ∷ 7 ∷ 7 ∷ 7 ∷ 7 ∷ 7 ∷ 7 ∷ 7 ∷ 7 ∷ 7 ∷ 7 ∷ 7 ∷ 7 ∷ 7 ∷ 7 ∷ 7 ∷ 7 ∷ 7 ∷ 7 ∷ 7 ∷ 7 ∷ 7 ∷ 7 ∷ 7 ∷ 7 ∷ 7 ∷ 7 ∷ 7 ∷ 7 ∷ 7 ∷ 7 ∷ 7 ∷ 7 ∷ 7 ∷ 7 ∷ 7 ∷ 7 ∷ 7 ∷ 7 ∷ 7 ∷ 7 ∷ 7 ∷ 7 ∷ 7 ∷ 7 ∷ 7 ∷ 7 ∷ 7 ∷ 7 ∷ 7 ∷ 7 ∷ 7 ∷ 7 ∷ 7 ∷ 7 ∷ 7 ∷ 7 ∷ 7 ∷ 7 ∷ 7 ∷ 7 ∷ 7 ∷ 7 ∷ 7 ∷ 7 ∷ 7 ∷ 7 ∷ 7 ∷ 7 ∷ 7 ∷ 7 ∷ 7 ∷ 7 ∷ 7 ∷ 7 ∷ 7 ∷ 7 ∷ 7 ∷ 7 ∷ 7 ∷ 7 ∷ 7 ∷ 7 ∷ 7 ∷ 7 ∷ 7 ∷ 7 ∷ 7 ∷ 7 ∷ 7 ∷ 7 ∷ 7 ∷ 7 ∷ 7 ∷ 7 ∷ 7 ∷ 7 ∷ [])
+    ∷ row (buffer-after (plan-of plan-a) (fresh (plan-of plan-a)) 0 (replicate 130 7)) (48 ∷ 32 ∷ 48 ∷ 32 ∷ 52 ∷ 32 ∷ 49 ∷ 32 ∷ 48 ∷ 32 ∷ 48 ∷ 32 ∷ 48 ∷ 32 ∷ 48 ∷ 32 ∷ 48 ∷ 32 ∷ 48 ∷ 10 ∷ replicate 110 7)
     -- 20 asks the buffer's length
     ∷ row (length (keep (λ b. eqb b 7) (buffer-after (plan-of plan-a) (fresh (plan-of plan-a)) 0 (replicate 127 7))) ∷ answer-number (counters-answer (replicate 127 7)) ∷ answer-number (counters-answer (replicate 128 7)) ∷ []) (127 ∷ 20 ∷ 0 ∷ [])
     ∷ []
@@ -376,26 +380,41 @@ rows = document-rows ++ our-rows
 
 -- every row holds
 pub table : failing 0 rows ≡ []
-unfolding same row-holds failing task plan-bytes diamond one-task seven easy-seven ten link chain refusal after-calls quantum-kept shown answered listed placed labelled document-rows seven-tasks header-fields task-fields fresh-with quantum-shown current-shown history-shown shown-twice statuses-from statuses plan-rows grant-rows tick-rows quantum-rows log-rows program-rows our-rows rows below every keep member count-set all-set first-no flatMap Plan.predecessors Plan.number Plan.header Plan.task-bits Plan.successor-fields Plan.plan-of Plan.fields-ok Plan.two-differ Plan.targets-ok Plan.task-questions Plan.all-preceded Plan.one-exit Plan.header-questions Plan.graph-questions Plan.plan-questions Plan.plan-answer Machine.finished Machine.fresh Machine.grant-questions Machine.kept-deques Machine.withdrawn-deques Machine.first-task-placed Machine.grant Machine.tick-questions Machine.cycle-of Machine.ready Machine.released Machine.left-by-steal Machine.taken-by-steal Machine.work-cycle Machine.mug-cycle Machine.successful-steal Machine.failed-steal Machine.cycle Machine.cycles Machine.cycles-made Machine.ticked Machine.efficient Machine.satisfied Machine.next-desire Machine.closes Machine.closed Machine.tick Machine.top-desires Machine.call-answer Machine.step Machine.status History.beginning History.history-grant History.history-tick History.history-step History.run-from History.run History.tasks-in Log.entries-up-to Log.entries Log.run-calls Log.run-log Log.log-answer Label.lines-from Label.lines Label.label-answer Label.label Counters.decimal-up-to Counters.decimal Counters.spaced Counters.counters Counters.counters-line Counters.counters-answer Counters.buffer-after Program.plan-length Program.plan-part Program.log-part Program.input-questions Program.refused-line Program.log-output Program.program
+unfolding same row-holds failing task plan-bytes diamond one-task seven easy-seven ten link chain refusal after-calls quantum-kept shown
+    answered listed placed labelled document-rows seven-tasks header-fields task-fields fresh-with quantum-shown current-shown
+    history-shown shown-twice statuses-from statuses plan-rows grant-rows tick-rows quantum-rows log-rows program-rows our-rows rows below
+    every keep member count-set all-set first-no flatMap Plan.predecessors Plan.number Plan.header Plan.task-bits Plan.successor-fields
+    Plan.plan-of Plan.fields-ok Plan.two-differ Plan.targets-ok Plan.task-questions Plan.all-preceded Plan.one-exit Plan.header-questions
+    Plan.graph-questions Plan.plan-questions Plan.plan-answer Machine.finished Machine.fresh Machine.grant-questions Machine.kept-deques
+    Machine.withdrawn-deques Machine.first-task-placed Machine.grant Machine.tick-questions Machine.cycle-of Machine.ready
+    Machine.released Machine.left-by-steal Machine.taken-by-steal Machine.work-cycle Machine.mug-cycle Machine.successful-steal
+    Machine.failed-steal Machine.cycle Machine.cycles Machine.cycles-made Machine.ticked Machine.efficient Machine.satisfied
+    Machine.next-desire Machine.closes Machine.closed Machine.tick Machine.top-desires Machine.call-answer Machine.step Machine.status
+    History.beginning History.history-grant History.history-tick History.history-step History.run-from History.run History.tasks-in
+    Log.entries-up-to Log.entries Log.run-calls Log.run-log Log.log-answer Label.lines-from Label.lines Label.label-answer Label.label
+    Counters.decimal-up-to Counters.decimal Counters.spaced Counters.counters Counters.counters-line Counters.counters-answer
+    Counters.buffer-after Program.plan-length Program.plan-part Program.log-part Program.input-questions Program.refused-line
+    Program.log-output Program.program
 table = refl
 
 -- examples 3 and 4 by themselves, for a program that meets them from contracts alone: Plan A is accepted, a first grant of 2 is refused by
 -- 14, and the status is then 0
 pub plan-a-begins : (plan-answer plan-a ≡ accepted) × (call-answer (grants 2) (fresh (plan-of plan-a)) ≡ refused 14)
     × (status (fresh (plan-of plan-a)) ≡ 0)
-unfolding same row-holds failing task plan-bytes diamond one-task seven easy-seven ten link chain refusal after-calls quantum-kept shown answered listed placed labelled document-rows seven-tasks header-fields task-fields fresh-with quantum-shown current-shown history-shown shown-twice statuses-from statuses plan-rows grant-rows tick-rows quantum-rows log-rows program-rows our-rows rows below every keep member count-set all-set first-no flatMap Plan.predecessors Plan.number Plan.header Plan.task-bits Plan.successor-fields Plan.plan-of Plan.fields-ok Plan.two-differ Plan.targets-ok Plan.task-questions Plan.all-preceded Plan.one-exit Plan.header-questions Plan.graph-questions Plan.plan-questions Plan.plan-answer Machine.finished Machine.fresh Machine.grant-questions Machine.kept-deques Machine.withdrawn-deques Machine.first-task-placed Machine.grant Machine.tick-questions Machine.cycle-of Machine.ready Machine.released Machine.left-by-steal Machine.taken-by-steal Machine.work-cycle Machine.mug-cycle Machine.successful-steal Machine.failed-steal Machine.cycle Machine.cycles Machine.cycles-made Machine.ticked Machine.efficient Machine.satisfied Machine.next-desire Machine.closes Machine.closed Machine.tick Machine.top-desires Machine.call-answer Machine.step Machine.status History.beginning History.history-grant History.history-tick History.history-step History.run-from History.run History.tasks-in Log.entries-up-to Log.entries Log.run-calls Log.run-log Log.log-answer Label.lines-from Label.lines Label.label-answer Label.label Counters.decimal-up-to Counters.decimal Counters.spaced Counters.counters Counters.counters-line Counters.counters-answer Counters.buffer-after Program.plan-length Program.plan-part Program.log-part Program.input-questions Program.refused-line Program.log-output Program.program
+unfolding table
 plan-a-begins = (refl, refl, refl)
 
--- ---- the table of the six top desires: one test over all of its entries
+-- ---- the table of the six top desires: one test over all of its entries. The crate `laws` makes it the rule at each entry.
 
-powers : ℕ → List ℕ
+unfoldable pub powers : ℕ → List ℕ
 powers r = map (desire-at r) (below 7)
 
 -- "the largest powers of R up to 64": a power of R, at most 64, and R times it exceeds 64
-top-desire-right : ℕ → ℕ → Bool
+unfoldable pub top-desire-right : ℕ → ℕ → Bool
 top-desire-right r top = member top (powers r) && (leb top most-workers && ltb most-workers (top * r))
 
-pub top-desires-right : ℕ → List ℕ → Bool
+-- the entries are those of R, R + 1, ..
+unfoldable pub top-desires-right : ℕ → List ℕ → Bool
 top-desires-right r [] = true
 top-desires-right r (top ∷ tops) = top-desire-right r top && top-desires-right (suc r) tops
 

@@ -4,7 +4,8 @@ use mathlib.Core.List.{List, [], _∷_, _++_}
 use Prim.Native.Nat.{ℕ}
 use Rattle.model.specs.Questions.{Answer, by-answer}
 use Rattle.model.specs.Plan.{Plan}
-use Rattle.model.specs.Machine.{State, allotment, fresh, grant, tick, ticked, closes, efficient-now, satisfied-now, Cycle, works-on, mugs-deque, steals-from, steals-nothing, cycles-made, Call, grants, ticks, call-answer}
+use Rattle.model.specs.Machine.{State, allotment, fresh, grant, tick, ticked, closes, efficient, satisfied}
+use Rattle.model.specs.Machine.{Cycle, works-on, mugs-deque, steals-from, steals-nothing, cycles-made, Call, grants, ticks, call-answer}
 
 -- a closed quantum (round): its wanted and granted counts, "and, once closed, efficient or not and satisfied or not"
 pub record ClosedQuantum : Type 0 where
@@ -38,18 +39,25 @@ history-grant g h =
       made = h .made;
     }
 
--- the verdict on the quantum that a tick closes
-abbrev pub verdict : Plan → CurrentQuantum → State → List ClosedQuantum
-verdict plan none s = []
-verdict plan (begun-with wanted granted) s =
-    record { wanted = wanted; granted = granted; was-efficient = efficient-now plan s; was-satisfied = satisfied-now s } ∷ []
+-- the verdict on the quantum that a tick closes, from the wanted and granted counts with which it began and its usage
+abbrev pub verdict : Plan → CurrentQuantum → ℕ → List ClosedQuantum
+verdict plan none usage = []
+verdict plan (begun-with wanted granted) usage =
+    record {
+      wanted = wanted;
+      granted = granted;
+      was-efficient = efficient plan usage granted;
+      was-satisfied = satisfied wanted granted;
+    }
+    ∷ []
 
 unfoldable pub history-tick : Plan → List ℕ → History → History
 history-tick plan choices h =
     let after = ticked plan choices (h .state) in
+    let judged = verdict plan (h .current) (after .execution .counts .usage) in
     record {
       state = tick plan choices (h .state);
-      closed-quanta = cond (closes plan after) (h .closed-quanta ++ verdict plan (h .current) after) (h .closed-quanta);
+      closed-quanta = cond (closes plan after) (h .closed-quanta ++ judged) (h .closed-quanta);
       current = cond (closes plan after) none (h .current);
       made = h .made ++ cycles-made plan 0 choices (h .state .execution);
     }

@@ -358,6 +358,10 @@ tick plan choices s = cond (closes plan (ticked plan choices s)) (closed plan (t
 unfoldable pub top-desires : List ℕ
 top-desires = 64 ∷ 27 ∷ 64 ∷ 25 ∷ 36 ∷ 49 ∷ []
 
+-- its entry for a responsiveness of 2 to 7
+abbrev pub top-desire : ℕ → ℕ
+top-desire responsiveness = getD top-desires (responsiveness - 2) 0
+
 -- the desire after k raises
 abbrev pub desire-at : ℕ → ℕ → ℕ
 desire-at responsiveness k = responsiveness ^ k

@@ -1,5 +1,5 @@
 -- The demands as statements over a plan and a whole list of calls, refused ones included. They are proved in the crate `laws`.
--- Each is for any responsiveness R of 2 or more: nothing here says that R is at most 7.
+-- Each is for any responsiveness R of 2 or more, but for those on the table of top desires, which is for an R of 2 to 7.
 use mathlib.Core.Path.{_≡_}
 use mathlib.Core.Bool.{Bool, true, false}
 use mathlib.Core.Logic.{_↔_}
@@ -8,7 +8,8 @@ use Prim.Native.Nat.{ℕ, _+_, _*_, _-_, _≤_, _<_}
 use lib.ListN.{length, getD}
 use Rattle.model.specs.Questions.{Answer, accepted}
 use Rattle.model.specs.Plan.{Plan, tasks, successors-of, predecessors}
-use Rattle.model.specs.Machine.{Call, ticks, call-answer, allotment, status, desire-at, most-workers, Cycle}
+use Rattle.model.specs.Machine.{State, Call, ticks, call-answer, allotment, status, desire-at, most-workers, Cycle}
+use Rattle.model.specs.Machine.{ticked, closes, efficient-now, satisfied-now, next-desire, top-desire}
 use Rattle.model.specs.History.{ClosedQuantum, History, run, history-step, work-count, mug-count, work-order}
 
 -- ---- what an accepted plan is: the plan rules, as facts about the plan
@@ -97,3 +98,43 @@ pub record DesireIsPower (plan : Plan) (h : History) : Type 0 where
   pub power : ℕ
   pub is-power : h .state .desire ≡ desire-at (plan .responsiveness) power
   pub at-most : h .state .desire ≤ most-workers
+
+-- ---- a quantum's end
+
+-- the quantum that closes in a state, by what the state shows
+abbrev pub ending : Plan → State → ClosedQuantum
+ending plan s =
+    record {
+      wanted = s .desire;
+      granted = allotment s;
+      was-efficient = efficient-now plan s;
+      was-satisfied = satisfied-now s;
+    }
+
+-- a history after a quantum's end: the quantum is the last of those closed, and the wanted count moved by its verdict
+pub record Judged (plan : Plan) (before after : History) (q : ClosedQuantum) : Type 0 where
+  pub recorded : after .closed-quanta ≡ before .closed-quanta ++ q ∷ []
+  pub moved : after .state .desire ≡ next-desire plan (q .wanted) (q .was-efficient) (q .was-satisfied)
+
+-- the history judges a quantum by the counts that it kept of it, the state by those that it shows when the quantum closes: they agree
+abbrev pub EndsAsRecorded : Plan → History → Type 0
+EndsAsRecorded plan h =
+    (choices : List ℕ) → call-answer (ticks choices) (h .state) ≡ accepted → closes plan (ticked plan choices (h .state)) ≡ true →
+    Judged plan h (history-step plan (ticks choices) h) (ending plan (ticked plan choices (h .state)))
+
+-- ---- the table of the six top desires
+
+-- "the largest powers of R up to 64": a power of R, at most 64, and R times it exceeds 64
+pub record TopDesire (responsiveness top : ℕ) : Type 0 where
+  pub power : ℕ
+  pub is-power : top ≡ desire-at responsiveness power
+  pub at-most : top ≤ most-workers
+  pub largest : most-workers < top * responsiveness
+
+-- "So it stops at the largest powers of R up to 64, for R = 2 to 7": the wanted count never exceeds the table's entry; an efficient and
+-- satisfied end multiplies it by R below the entry, and leaves it at the entry
+pub record StopsAtTop (plan : Plan) (h : History) : Type 0 where
+  pub at-most : h .state .desire ≤ top-desire (plan .responsiveness)
+  pub rises : h .state .desire < top-desire (plan .responsiveness) →
+      next-desire plan (h .state .desire) true true ≡ h .state .desire * plan .responsiveness
+  pub stays : h .state .desire ≡ top-desire (plan .responsiveness) → next-desire plan (h .state .desire) true true ≡ h .state .desire

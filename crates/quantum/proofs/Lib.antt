@@ -1,3 +1,2 @@
 -- The proofs, by topic.
-pub mod Table
 pub mod Desires

@@ -2,16 +2,9 @@
 -- fields at hand.
 use mathlib.Core.Path.{_≡_}
 use mathlib.Core.Bool.{Bool}
-use Prim.Native.Nat.{ℕ, _*_, _≤_, _<_}
+use Prim.Native.Nat.{ℕ, _≤_}
 use Rattle.model.specs.Plan.{Plan}
 use Rattle.model.specs.Machine.{efficient, satisfied, raised, next-desire, desire-at, most-workers}
-
--- the largest power of R that is at most 64
-pub record TopDesire (responsiveness top : ℕ) : Type 0 where
-  pub power : ℕ
-  pub is-power : top ≡ desire-at responsiveness power
-  pub at-most : top ≤ most-workers
-  pub largest : most-workers < top * responsiveness
 
 -- a desire is a power of R that is at most 64, for an R of 2 to 7
 pub record Power (responsiveness desire : ℕ) : Type 0 where

@@ -1,15 +1,16 @@
 // What a quantum's end does to the desire (document 01, "Round's end").
 ghost use mathlib.Core.Path.{_≡_};
 ghost use Prim.Native.Nat.{_/_, _≤_};
-ghost use Rattle.quantum.specs.Closing.{TopDesire, Power, Closable, WasEfficient, WasRaised, Closed};
+ghost use Rattle.model.specs.Machine.{top-desire};
+ghost use Rattle.quantum.specs.Closing.{Power, Closable, WasEfficient, WasRaised, Closed};
 
 // "So it stops at the largest powers of R up to 64, for R = 2 to 7".
 const TOP_DESIRES: [u8; 6] = [64, 27, 64, 25, 36, 49];
 
-// The largest power of the responsiveness that is at most 64.
+// The largest power of the responsiveness that is at most 64: the entry of model's table.
 fn top_desire(responsiveness: u8) -> u8
     requires { ⌜ (2 ≤ responsiveness) × (responsiveness ≤ 7) ⌝ }
-    ensures { λ r. ⌜ TopDesire responsiveness r ⌝ }
+    ensures { λ r. ⌜ r ≡ top-desire responsiveness ⌝ }
 {
     let place = (responsiveness - 2) as usize;
     TOP_DESIRES[place]

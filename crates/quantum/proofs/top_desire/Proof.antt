@@ -1,7 +1,7 @@
--- `quantum::top_desire` meets its contract: the table's rule, tested once over all of its entries.
+-- `quantum::top_desire` meets its contract: the constant's entries are those of model's table.
+use mathlib.Core.Path.{refl}
 use borrow.Author.Needs.{needs}
 use Rattle.model.specs.Machine.{top-desires}
-use Rattle.quantum.proofs.Desires.{top-of}
 use Rattle.quantum.proofs.top_desire.Statement.{statement}
 use Rattle.quantum.proofs.top_desire.Tie as tie
 
@@ -16,7 +16,7 @@ array-read-result c = search needs
 
 returns : tie.Need-returns
 unfolding top-desires
-returns c = top-of (c .args .responsiveness) (c .pre .0) (c .pre .1)
+returns c = refl
 
 pub top-desire-spec : {M : Type 1} → statement M
 top-desire-spec = tie.close (tie.spec sub-place cast-place array-read-result returns)
