@@ -5,13 +5,9 @@ ghost use Prim.Native.Nat.{_+_, _≤_, _<_};
 ghost use Rattle.model.specs.Machine.{stolen-count};
 ghost use Rattle.deque.specs.View.{ends-at, put-deque};
 ghost use Rattle.deque.specs.Steps.{link-after, Reachable, Releasable, Released, AllReleasable, AllReleased};
-
-// Three counts, and no total of one kind takes a cycle of another: each has a type of its own.
-pub struct WorkCycles(pub u64);
-
-pub struct MugCycles(pub u64);
-
-pub struct StealCycles(pub u64);
+use cycle_counts::MugCycles;
+use cycle_counts::StealCycles;
+use cycle_counts::WorkCycles;
 
 // The numbers of an execution, beside its arrays.
 pub struct Numbers {

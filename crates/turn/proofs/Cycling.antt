@@ -70,9 +70,8 @@ module _ {first second pending next ends : List ℕ} {m : Numbers} {w choice : �
   -- what shows the model's cycle is sound
   cycled : {pending′ next′ ends′ : List ℕ} {m′ : Numbers} → view pending′ next′ ends′ m′ ≡ cycle plan w choice e → Sizes pending′ next′ ends′ →
       Kept plan pending′ m′ → Within 1 m m′ → m′ .waiting + m′ .mugs .0 ≡ m .waiting + m .mugs .0 →
-      m′ .works .0 + m′ .mugs .0 + m′ .steals .0 ≡ (m .works .0 + m .mugs .0 + m .steals .0) + 1 →
       Cycled first second pending next ends m w choice pending′ next′ ends′ m′
-  cycled {pending′} {m′ = m′} shows sizes kept within mugged one-kind =
+  cycled {pending′} {m′ = m′} shows sizes kept within mugged =
       record {
         shows = shows;
         sound =
@@ -87,7 +86,6 @@ module _ {first second pending next ends : List ℕ} {m : Numbers} {w choice : �
             };
         within = within;
         mugged = mugged;
-        one-kind = one-kind;
       }
 
   -- ---- work
@@ -117,7 +115,6 @@ module _ {first second pending next ends : List ℕ} {m : Numbers} {w choice : �
         usage-grew = omega arith;
       }))
       (rw (r .numbers) refl)
-      (rw (r .numbers) (omega arith))
 
   -- ---- mug and steal: the worker's own deque is empty
 
@@ -163,7 +160,6 @@ module _ {first second pending next ends : List ℕ} {m : Numbers} {w choice : �
         successes-grew = omega arith;
         usage-grew = omega arith;
       }))
-      (rw (r .numbers) (omega arith))
       (rw (r .numbers) (omega arith))
 
   -- the tasks of a worker's deque are tasks of the arrays
@@ -216,4 +212,3 @@ module _ {first second pending next ends : List ℕ} {m : Numbers} {w choice : �
         usage-grew = omega arith;
       }))
       (rw counted refl)
-      (rw counted (omega arith))

@@ -19,8 +19,8 @@ use Rattle.deque.specs.View.{worked-view, graph, view}
 use Rattle.deque.specs.Sound.{Kept, Sound, Room, Within}
 use Rattle.deque.proofs.Views.{workers-shown, flags-shown, all-counted}
 use Rattle.turn.specs.declared.Tally.{Tally}
-use Rattle.turn.specs.Turns.{numbers-at, cycle-limit, Counted, Addable, ChoiceTurn, Cycled, TickTurn, Ticked}
-use Rattle.turn.proofs.Tallying.{none, none-added}
+use Rattle.turn.specs.Turns.{no-tally, numbers-at, cycle-limit, Addable, ChoiceTurn, Cycled, TickTurn, Ticked}
+use Rattle.turn.proofs.Tallying.{none-added}
 
 -- what holds of every element holds of the one at a place
 every-place : (test : ℕ → Bool) (xs : List ℕ) (i : ℕ) → every test xs ≡ true → i < length xs → test (getD xs i 0) ≡ true
@@ -125,13 +125,12 @@ pub record Underway (first second pending next ends : List ℕ) (m : Numbers) (c
   pub sound : Sound first second pending′ next′ ends′ m′
   pub within : Within i m m′
   pub mugged : m′ .waiting + m′ .mugs .0 ≡ m .waiting + m .mugs .0
-  pub one-kind-each : m′ .works .0 + m′ .mugs .0 + m′ .steals .0 ≡ (m .works .0 + m .mugs .0 + m .steals .0) + i
 
 module _ {first second pending next ends : List ℕ} {m : Numbers} {choices : List ℕ} (tick : TickTurn first second pending next ends m choices) where
-  pub begin : Underway first second pending next ends m choices pending next ends (numbers-at m 0 none) 0
+  pub begin : Underway first second pending next ends m choices pending next ends (numbers-at m no-tally) 0
   begin =
       subst (λ (m′ : Numbers). Underway first second pending next ends m choices pending next ends m′ 0) (none-added m (tick .sound .kept .head-in-ring))
-      (record { part = omega arith; shows = refl; sound = tick .sound; within = within-none m; mugged = refl; one-kind-each = omega arith })
+      (record { part = omega arith; shows = refl; sound = tick .sound; within = within-none m; mugged = refl })
 
   pub some-left : m .done ≤ m .tasks
   some-left = done-of-tasks (tick .sound)
@@ -193,23 +192,15 @@ module _ {first second pending next ends : List ℕ} {m : Numbers} {choices : Li
             sound = c .sound;
             within = within-then (u .within) (c .within);
             mugged = c .mugged ∙ u .mugged;
-            one-kind-each = omega (arith, c .one-kind, u .one-kind-each);
           }
 
-  pub counted : {pending′ next′ ends′ : List ℕ} (t : Tally) {i : ℕ} → Underway first second pending next ends m choices pending′ next′ ends′ (numbers-at m i t) i →
-      Counted m i t
-  counted t u = omega (arith, u .one-kind-each)
-
   -- the tally can be added
-  pub addable : {pending′ next′ ends′ : List ℕ} (t : Tally) {i : ℕ} → Underway first second pending next ends m choices pending′ next′ ends′ (numbers-at m i t) i →
-      Addable m i t
+  pub addable : {pending′ next′ ends′ : List ℕ} (t : Tally) {i : ℕ} → Underway first second pending next ends m choices pending′ next′ ends′ (numbers-at m t) i →
+      Addable m t
   addable t u =
       record {
         done-fits = omega (arith, done-of-tasks (u .sound), tick .sound .few-tasks);
         waited = omega (arith, u .mugged);
         head = tick .sound .kept .head-in-ring;
-        few = omega (arith, u .part, few-choices);
-        steals-before = tick .room .steals-fit;
-        counted = counted t u;
         room = room-now u;
       }

@@ -65,27 +65,32 @@ after-steal success m =
 
 -- ---- what the cycles of a tick so far add
 
+abbrev pub no-tally : Tally
+no-tally = record { works = record { 0 = 0 }; mugs = record { 0 = 0 }; steals = record { 0 = 0 }; successes = 0 }
+
 abbrev pub add-work : Tally → Tally
-add-work t = record { works = record { 0 = t .works .0 + 1 }; mugs = t .mugs; successes = t .successes }
+add-work t =
+    record { works = record { 0 = t .works .0 + 1 }; mugs = t .mugs; steals = t .steals; successes = t .successes }
 
 abbrev pub add-mug : Tally → Tally
-add-mug t = record { works = t .works; mugs = record { 0 = t .mugs .0 + 1 }; successes = t .successes }
+add-mug t =
+    record { works = t .works; mugs = record { 0 = t .mugs .0 + 1 }; steals = t .steals; successes = t .successes }
 
 -- with 1 success or 0
 abbrev pub add-steal : ℕ → Tally → Tally
-add-steal success t = record { works = t .works; mugs = t .mugs; successes = t .successes + success }
+add-steal success t =
+    record { works = t .works; mugs = t .mugs; steals = record { 0 = t .steals .0 + 1 }; successes = t .successes + success }
 
--- the numbers of a tick's beginning with what its cycles so far add; every cycle is of one kind, so those that were neither work nor mug cycles
--- were steal cycles
-abbrev pub numbers-at : Numbers → ℕ → Tally → Numbers
-numbers-at m cycles t =
+-- the numbers of a tick's beginning with what its cycles so far add
+abbrev pub numbers-at : Numbers → Tally → Numbers
+numbers-at m t =
     record {
       tasks = m .tasks;
       workers = m .workers;
       done = m .done + t .works .0;
       works = record { 0 = m .works .0 + t .works .0 };
       mugs = record { 0 = m .mugs .0 + t .mugs .0 };
-      steals = record { 0 = (m .steals .0 + cycles) - (t .works .0 + t .mugs .0) };
+      steals = record { 0 = m .steals .0 + t .steals .0 };
       successes = m .successes + t .successes;
       usage = m .usage + (t .works .0 + t .mugs .0);
       head = (m .head + t .mugs .0) % 64;
@@ -106,21 +111,15 @@ cycle-limit = count-limit + 64
 pub record Growing (t : Tally) : Type 0 where
   pub works-fit : t .works .0 ≤ cycle-limit
   pub mugs-fit : t .mugs .0 ≤ cycle-limit
+  pub steals-fit : t .steals .0 ≤ cycle-limit
   pub successes-fit : t .successes ≤ cycle-limit
 
--- no more work and mug cycles than cycles
-abbrev pub Counted : Numbers → ℕ → Tally → Type 0
-Counted m cycles t = t .works .0 + t .mugs .0 ≤ m .steals .0 + cycles
-
 -- sums that fit, and no more mugs than muggable deques
-pub record Addable (m : Numbers) (cycles : ℕ) (t : Tally) : Type 0 where
+pub record Addable (m : Numbers) (t : Tally) : Type 0 where
   pub done-fits : m .done + t .works .0 ≤ 1024
   pub waited : t .mugs .0 ≤ m .waiting
   pub head : m .head < 64
-  pub few : cycles ≤ 64
-  pub steals-before : m .steals .0 ≤ count-limit
-  pub counted : Counted m cycles t
-  pub room : Room cycle-limit (numbers-at m cycles t)
+  pub room : Room cycle-limit (numbers-at m t)
 
 -- ---- one cycle of each kind
 
@@ -183,8 +182,6 @@ pub record Cycled (first second pending next ends : List ℕ) (m : Numbers) (w c
   pub within : Within 1 m m′
   -- each mug takes one of the muggable deques
   pub mugged : m′ .waiting + m′ .mugs .0 ≡ m .waiting + m .mugs .0
-  -- the cycle is of one kind
-  pub one-kind : m′ .works .0 + m′ .mugs .0 + m′ .steals .0 ≡ (m .works .0 + m .mugs .0 + m .steals .0) + 1
 
 -- ---- the cycle of a worker whose deque is empty
 

@@ -1,18 +1,31 @@
 // A worker's cycle (work, mug, steal) and the cycles of a tick, in place over the arrays of a job.
+use cycle_counts::MugCycles;
+use cycle_counts::StealCycles;
+use cycle_counts::WorkCycles;
 use deque::Deque;
-use deque::MugCycles;
 use deque::Numbers;
-use deque::StealCycles;
-use deque::WorkCycles;
 ghost use mathlib.Core.Path.{_≡_};
 ghost use Prim.Native.Nat.{_+_, _≤_, _<_};
-ghost use Rattle.turn.specs.Turns.{add-work, add-mug, add-steal, numbers-at, Counted, Growing, Addable, MugTurn, Mugged, StealTurn, Stolen, WorkTurn, Worked, IdleTurn, Idled, TickTurn, Ticked};
+ghost use Rattle.turn.specs.Turns.{no-tally, add-work, add-mug, add-steal, numbers-at, Growing, Addable, MugTurn, Mugged, StealTurn, Stolen, WorkTurn, Worked, IdleTurn, Idled, TickTurn, Ticked};
 
 // What the cycles of a tick so far add to the numbers.
 pub struct Tally {
     pub works: WorkCycles,
     pub mugs: MugCycles,
+    pub steals: StealCycles,
     pub successes: u64,
+}
+
+// No cycle yet.
+fn no_tally() -> Tally
+    ensures { λ r. ⌜ r ≡ no-tally ⌝ }
+{
+    Tally {
+        works: WorkCycles::none(),
+        mugs: MugCycles::none(),
+        steals: StealCycles::none(),
+        successes: 0,
+    }
 }
 
 // One work cycle more.
@@ -20,10 +33,13 @@ fn add_work(t: Tally) -> Tally
     requires { ⌜ Growing t ⌝ }
     ensures { λ r. ⌜ r ≡ add-work t ⌝ }
 {
+    let works = t.works;
     let mugs = t.mugs;
+    let steals = t.steals;
     Tally {
-        works: WorkCycles(t.works.0 + 1),
+        works: works.one_more(),
         mugs: mugs,
+        steals: steals,
         successes: t.successes,
     }
 }
@@ -34,9 +50,12 @@ fn add_mug(t: Tally) -> Tally
     ensures { λ r. ⌜ r ≡ add-mug t ⌝ }
 {
     let works = t.works;
+    let mugs = t.mugs;
+    let steals = t.steals;
     Tally {
         works: works,
-        mugs: MugCycles(t.mugs.0 + 1),
+        mugs: mugs.one_more(),
+        steals: steals,
         successes: t.successes,
     }
 }
@@ -48,43 +67,55 @@ fn add_steal(t: Tally, success: u64) -> Tally
 {
     let works = t.works;
     let mugs = t.mugs;
+    let steals = t.steals;
     Tally {
         works: works,
         mugs: mugs,
+        steals: steals.one_more(),
         successes: t.successes + success,
     }
 }
 
-// The numbers of a tick's beginning with what so many cycles add. Every cycle is of one kind: those that were neither work nor mug cycles were
-// steal cycles, so that the loop need not count them.
-fn numbers_at(m: Numbers, cycles: usize, t: Tally) -> Numbers
-    requires { ⌜ Addable m cycles t ⌝ }
-    ensures { λ r. ⌜ r ≡ numbers-at m cycles t ⌝ }
+// The numbers of a tick's beginning with what its cycles add.
+fn numbers_at(m: Numbers, t: Tally) -> Numbers
+    requires { ⌜ Addable m t ⌝ }
+    ensures { λ r. ⌜ r ≡ numbers-at m t ⌝ }
 {
-    let works = t.works.0;
-    let mugs = t.mugs.0;
-    let used = works + mugs;
-    let mugged = mugs as usize;
+    let works = t.works;
+    let mugs = t.mugs;
+    let steals = t.steals;
+    let all_works = m.works;
+    let all_mugs = m.mugs;
+    let all_steals = m.steals;
+    let worked = works.number();
+    let mugged = mugs.number() as usize;
+    let used = cycle_counts::usage(works, mugs);
+    let done = m.done + worked as u16;
+    let successes = m.successes + t.successes;
+    let usage = m.usage + used;
+    let head = (m.head + mugged) % 64;
+    let waiting = m.waiting - mugged;
     Numbers {
         tasks: m.tasks,
         workers: m.workers,
-        done: m.done + works as u16,
-        works: WorkCycles(m.works.0 + works),
-        mugs: MugCycles(m.mugs.0 + mugs),
-        steals: StealCycles(m.steals.0 + cycles as u64 - used),
-        successes: m.successes + t.successes,
-        usage: m.usage + used,
-        head: (m.head + mugged) % 64,
-        waiting: m.waiting - mugged,
+        done,
+        works: all_works.plus(works),
+        mugs: all_mugs.plus(mugs),
+        steals: all_steals.plus(steals),
+        successes,
+        usage,
+        head,
+        waiting,
     }
 }
 
 // A mug cycle: the oldest muggable deque becomes the worker's own, whole.
 pub fn mug_cycle(ends: &mut [u16; 256], w: usize, m: Numbers, t: Tally) -> Tally
-    requires { ⌜ (m .head < 64) × MugTurn (now ends) (numbers-at m w t) w ⌝ }
-    ensures { λ r. ⌜ Mugged (now (ends .entry)) (numbers-at m w t) w (now (ends .exit)) (numbers-at m (w + 1) r) ⌝ }
+    requires { ⌜ (m .head < 64) × MugTurn (now ends) (numbers-at m t) w ⌝ }
+    ensures { λ r. ⌜ Mugged (now (ends .entry)) (numbers-at m t) w (now (ends .exit)) (numbers-at m r) ⌝ }
 {
-    let mugged = t.mugs.0 as usize;
+    let mugs = t.mugs;
+    let mugged = mugs.number() as usize;
     let place = 64 + (m.head + mugged) % 64;
     let oldest = deque::deque_at(ends, place);
     deque::put(ends, w, oldest);
@@ -99,8 +130,8 @@ pub fn steal_cycle(
     choice: usize,
     t: Tally,
 ) -> Tally
-    requires { ⌜ ((m : Numbers) × StealTurn (now next) (now ends) (numbers-at m w t) w choice) ⌝ }
-    ensures { λ r. ⌜ ((m : Numbers) → Counted m w t → StealTurn (now (next .entry)) (now (ends .entry)) (numbers-at m w t) w choice → Stolen (now (next .entry)) (now (ends .entry)) (numbers-at m w t) w choice (now (ends .exit)) (numbers-at m (w + 1) r)) ⌝ }
+    requires { ⌜ ((m : Numbers) × StealTurn (now next) (now ends) (numbers-at m t) w choice) ⌝ }
+    ensures { λ r. ⌜ ((m : Numbers) → StealTurn (now (next .entry)) (now (ends .entry)) (numbers-at m t) w choice → Stolen (now (next .entry)) (now (ends .entry)) (numbers-at m t) w choice (now (ends .exit)) (numbers-at m r)) ⌝ }
 {
     let victim = deque::deque_at(ends, choice);
     if victim.size < 2 {
@@ -138,8 +169,8 @@ pub fn work_cycle(
     w: usize,
     t: Tally,
 ) -> Tally
-    requires { ⌜ ((m : Numbers) × WorkTurn (now first) (now second) (now pending) (now next) (now ends) (numbers-at m w t) w) ⌝ }
-    ensures { λ r. ⌜ ((m : Numbers) → WorkTurn (now (first .entry)) (now (second .entry)) (now (pending .entry)) (now (next .entry)) (now (ends .entry)) (numbers-at m w t) w → Worked (now (first .entry)) (now (second .entry)) (now (pending .entry)) (now (next .entry)) (now (ends .entry)) (numbers-at m w t) w (now (pending .exit)) (now (next .exit)) (now (ends .exit)) (numbers-at m (w + 1) r)) ⌝ }
+    requires { ⌜ ((m : Numbers) × WorkTurn (now first) (now second) (now pending) (now next) (now ends) (numbers-at m t) w) ⌝ }
+    ensures { λ r. ⌜ ((m : Numbers) → WorkTurn (now (first .entry)) (now (second .entry)) (now (pending .entry)) (now (next .entry)) (now (ends .entry)) (numbers-at m t) w → Worked (now (first .entry)) (now (second .entry)) (now (pending .entry)) (now (next .entry)) (now (ends .entry)) (numbers-at m t) w (now (pending .exit)) (now (next .exit)) (now (ends .exit)) (numbers-at m r)) ⌝ }
 {
     let own = deque::deque_at(ends, w);
     let task = deque::wide(own.front);
@@ -164,10 +195,11 @@ pub fn idle_cycle(
     m: Numbers,
     t: Tally,
 ) -> Tally
-    requires { ⌜ (m .head < 64) × Counted m w t × IdleTurn (now next) (now ends) (numbers-at m w t) w choice ⌝ }
-    ensures { λ r. ⌜ Idled (now (next .entry)) (now (ends .entry)) (numbers-at m w t) w choice (now (ends .exit)) (numbers-at m (w + 1) r) ⌝ }
+    requires { ⌜ (m .head < 64) × IdleTurn (now next) (now ends) (numbers-at m t) w choice ⌝ }
+    ensures { λ r. ⌜ Idled (now (next .entry)) (now (ends .entry)) (numbers-at m t) w choice (now (ends .exit)) (numbers-at m r) ⌝ }
 {
-    let mugged = t.mugs.0 as usize;
+    let mugs = t.mugs;
+    let mugged = mugs.number() as usize;
     if mugged < m.waiting {
         return mug_cycle(ends, w, m, t);
     }
@@ -189,18 +221,15 @@ pub fn cycles(
     ensures { λ r. ⌜ Ticked (now (first .entry)) (now (second .entry)) (now (pending .entry)) (now (next .entry)) (now (ends .entry)) m (now (choices .entry)) (now (pending .exit)) (now (next .exit)) (now (ends .exit)) r ⌝ }
 {
     let left = (m.tasks - m.done) as u64;
-    let mut t = Tally {
-        works: WorkCycles(0),
-        mugs: MugCycles(0),
-        successes: 0,
-    };
+    let mut t = no_tally();
     let mut w = 0;
     while w < choices.len() {
         let own = deque::deque_at(ends, w);
         if own.size > 0 {
             t = work_cycle(first, second, pending, next, ends, w, t);
-            if t.works.0 == left {
-                return numbers_at(m, w + 1, t);
+            let works = t.works;
+            if works.number() == left {
+                return numbers_at(m, t);
             }
         } else {
             let choice = choices[w] as usize;
@@ -208,5 +237,5 @@ pub fn cycles(
         }
         w += 1;
     }
-    numbers_at(m, w, t)
+    numbers_at(m, t)
 }

@@ -12,10 +12,10 @@ deque-at-requires : tie.Need-deque-at-requires
 deque-at-requires c κs = search needs
 
 add-steal-requires : tie.Need-add-steal-requires
-add-steal-requires c κs = (growing (c .before .before .before .before .pre .0) _ _ (c .before .before .before .before .pre .1 .room), omega arith)
+add-steal-requires c κs = (growing (c .before .before .before .before .pre .0) _ (c .before .before .before .before .pre .1 .room), omega arith)
 
 returns : tie.Need-returns
-returns c = λ m counted turn. stolen-nothing turn (c .before .before .before .deque-at .ensures) (omega (arith, c .before .if1 .taken)) (ap (numbers-at m _) (c .add-steal .ensures) ∙ steal-added 0 m _ _ counted)
+returns c = λ m turn. stolen-nothing turn (c .before .before .before .deque-at .ensures) (omega (arith, c .before .if1 .taken)) (ap (numbers-at m) (c .add-steal .ensures) ∙ steal-added 0 m _)
 
 stolen-count-requires : tie.Need-stolen-count-requires
 stolen-count-requires c κs = search needs
@@ -33,10 +33,10 @@ put-requires-2 : tie.Need-put-requires-2
 put-requires-2 c κs = search needs
 
 add-steal-requires-2 : tie.Need-add-steal-requires-2
-add-steal-requires-2 c κs = (growing (c .before .before .before .before .before .before .before .before .before .before .before .pre .0) _ _ (c .before .before .before .before .before .before .before .before .before .before .before .pre .1 .room), omega arith)
+add-steal-requires-2 c κs = (growing (c .before .before .before .before .before .before .before .before .before .before .before .pre .0) _ (c .before .before .before .before .before .before .before .before .before .before .before .pre .1 .room), omega arith)
 
 returns-2 : tie.Need-returns-2
-returns-2 c = λ m counted turn.
+returns-2 c = λ m turn.
     stolen turn (c .before .before .before .before .before .before .before .before .before .before .deque-at .ensures)
     (record {
       many = omega (arith, c .before .before .before .before .before .before .before .before .if1 .left);
@@ -45,7 +45,7 @@ returns-2 c = λ m counted turn.
       led = c .before .before .before .before .before .ahead .ensures;
       robbed = c .before .before .before .put .ensures;
       given = c .before .put2 .ensures;
-      counted = ap (numbers-at m _) (c .add-steal2 .ensures) ∙ steal-added 1 m _ _ counted;
+      counted = ap (numbers-at m) (c .add-steal2 .ensures) ∙ steal-added 1 m _;
     })
 
 pub steal-cycle-spec : {M : Type 1} → statement M

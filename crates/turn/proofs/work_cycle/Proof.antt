@@ -60,14 +60,14 @@ put-requires : tie.Need-put-requires
 put-requires c κs = omega (arith, worker-place (c .before .before .before .before .before .before .before .before .before .before .before .pre .1))
 
 add-work-requires : tie.Need-add-work-requires
-add-work-requires c κs = growing (c .before .before .before .before .before .before .before .before .before .before .before .before .pre .0) _ _ (c .before .before .before .before .before .before .before .before .before .before .before .before .pre .1 .turn .room)
+add-work-requires c κs = growing (c .before .before .before .before .before .before .before .before .before .before .before .before .pre .0) _ (c .before .before .before .before .before .before .before .before .before .before .before .before .pre .1 .turn .room)
 
 returns : tie.Need-returns
 returns c = λ m turn.
     work-done turn
     (rw (task (c .before .before .before .before .before .before .before .before .before .before), size (c .before .before .before .before .before .before .before .before .before .before .before)) at (c .before .before .before .release-successors .ensures))
     (c .before .put .ensures)
-    (ap (numbers-at m _) (c .add-work .ensures) ∙ work-added m _ _)
+    (ap (numbers-at m) (c .add-work .ensures) ∙ work-added m _)
 
 pub work-cycle-spec : {M : Type 1} → statement M
 work-cycle-spec =
