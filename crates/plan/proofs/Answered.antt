@@ -15,7 +15,7 @@ use Rattle.plan.specs.declared.Header.{Header}
 use Rattle.plan.specs.declared.Reading.{Reading}
 use Rattle.plan.specs.declared.Heading.{Heading}
 use Rattle.plan.specs.Answers.{answer-of, passes}
-use Rattle.plan.specs.Contracts.{five-bytes, field-questions, HeaderOf, HeaderRead, Held, Due, TasksRead, one-or-two, followed}
+use Rattle.plan.specs.Contracts.{five-bytes, field-questions, HeaderOf, HeaderRead, Held, Due, TasksRead, one-or-two, followed, HeadingRead}
 use Rattle.plan.specs.Promise.{blank, no-heading, plan-with, Holds, RightReading, RightHeading}
 use Rattle.plan.proofs.Asked.{passes-is, passes-not, stops, two-accepted, first-refused, second-refused}
 use Rattle.plan.proofs.Facts.{header-facts}
@@ -27,7 +27,7 @@ use Rattle.plan.proofs.Whole.{question-9, question-10, nothing-held, re
 
 -- a refusal leaves zeros
 pub right-refusal : (bytes : List ℕ) (a : PlanAnswer) (r : Heading) (first second counts : List ℕ) → answer-of a ≡ plan-answer bytes →
-    passes (answer-of a) ≡ false → r ≡ no-heading a → RightHeading bytes r first second counts
+    passes (answer-of a) ≡ false → r ≡ no-heading a → HeadingRead bytes r first second counts
 right-refusal bytes a r first second counts answered fails e =
     rw e
     (record {
@@ -37,7 +37,7 @@ right-refusal bytes a r first second counts answered fails e =
     })
 
 pub right-acceptance : (bytes : List ℕ) (r : Heading) (first second counts : List ℕ) → plan-answer bytes ≡ accepted → r .answer ≡ Accepted →
-    Holds bytes (plan-with r first second counts) → RightHeading bytes r first second counts
+    Holds bytes (plan-with r first second counts) → HeadingRead bytes r first second counts
 right-acceptance bytes r first second counts answered e h =
     record {
       answered = ap answer-of e ∙ sym answered;
@@ -45,9 +45,35 @@ right-acceptance bytes r first second counts answered e h =
       no-plan = λ number refusal. let z : _≡_ {A = ℕ} 0 1 = cc in absurd (omega arith);
     }
 
+-- ---- readings into lent arrays
+
+module _ (bytes : List ℕ) (h : Heading) (its-first its-second its-counts : List ℕ)
+    (read : HeadingRead bytes h its-first its-second its-counts) (first second counts : List ℕ) where
+  -- refused: the lent arrays are as they came
+  pub into-refused : passes (answer-of (h .answer)) ≡ false → RightHeading bytes h first second counts first second counts
+  into-refused fails =
+      record {
+        answered = read .answered;
+        held = λ yes'. absurd (passes-not (answer-of (h .answer)) fails (read .answered ∙ yes'));
+        no-plan = read .no-plan;
+        kept = λ _ _. (refl, refl, refl);
+      }
+
+  -- accepted: they have what was read
+  pub into-passed : passes (answer-of (h .answer)) ≡ true → RightHeading bytes h first second counts its-first its-second its-counts
+  into-passed holds =
+      record {
+        answered = read .answered;
+        held = read .held;
+        no-plan = read .no-plan;
+        kept = λ number refusal.
+            let is-accepted : plan-answer bytes ≡ accepted = sym (read .answered) ∙ passes-is (answer-of (h .answer)) holds in
+            let z : _≡_ {A = ℕ} 0 1 = cc in absurd (omega arith);
+      }
+
 -- ---- readings, by value
 
-module _ (bytes : List ℕ) (h : Heading) (first second counts : List ℕ) (right : RightHeading bytes h first second counts) where
+module _ (bytes : List ℕ) (h : Heading) (first second counts : List ℕ) (right : HeadingRead bytes h first second counts) where
   pub reading-refused : (r : Reading) → passes (answer-of (h .answer)) ≡ false → r .answer ≡ h .answer → r .plan ≡ blank → RightReading bytes r
   reading-refused r fails e p =
       record {
@@ -146,7 +172,7 @@ module _ (bytes : List ℕ) (h : Header) (read : HeaderRead bytes h) where
 
       pub accepted-whole : every (one-or-two counts) (drop 1 (below (h .tasks))) ≡ true → every (followed first) (below (h .tasks - 1)) ≡ true →
           (r : Heading) → r .answer ≡ Accepted → r .responsiveness ≡ h .responsiveness → r .utilization ≡ h .utilization →
-          r .«quantum_length» ≡ h .quantum → r .tasks ≡ h .tasks → RightHeading bytes r first second (set counts 0 0)
+          r .«quantum_length» ≡ h .quantum → r .tasks ≡ h .tasks → HeadingRead bytes r first second (set counts 0 0)
       unfolding graph-questions
       accepted-whole nine ten r e e-r e-u e-q e-n =
           let passed =

@@ -6,13 +6,15 @@ use Prim.Native.Nat.{ℕ, _+_, _*_, _-_, _≤_, _<_}
 use lib.Dec.{leb, ltb, eqb}
 use lib.ListN.{length, getD, set}
 use Rattle.model.specs.Tests.{below, keep, member}
-use Rattle.model.specs.Questions.{Question, accepted, ask, first-no}
-use Rattle.model.specs.Plan.{field, header, task-count, first-field, second-field, used-fields, successor-fields, fields-ok, targets-ok, task-questions, header-questions}
+use Rattle.model.specs.Questions.{Question, accepted, refused, ask, first-no}
+use Rattle.model.specs.Plan.{field, header, task-count, first-field, second-field, used-fields, successor-fields, fields-ok, targets-ok, task-questions, header-questions, plan-answer}
 use Rattle.plan.specs.declared.Header.{Header}
 use Rattle.plan.specs.declared.TaskFields.{TaskFields}
+use Rattle.plan.specs.declared.Heading.{Heading}
 use Rattle.plan.specs.declared.PlanAnswer.{PlanAnswer}
 use Rattle.plan.specs.Answers.{answer-of}
 use Rattle.plan.specs.View.{Ends}
+use Rattle.plan.specs.Promise.{Holds, plan-with, no-heading}
 
 -- ---- the fields
 
@@ -107,3 +109,12 @@ one-or-two counts t = leb 1 (getD counts t 0) && leb (getD counts t 0) 2
 
 unfoldable pub followed : List ℕ → ℕ → Bool
 followed first t = not (eqb (getD first t 0) 0)
+
+-- ---- reading over arrays
+
+-- the answer is the first "no"; where there is none, the heading and the arrays hold the plan; a refusal leaves zeros in the heading, and
+-- the arrays with no meaning: nothing is promised of them
+pub record HeadingRead (bytes : List ℕ) (r : Heading) (first second predecessors : List ℕ) : Type 0 where
+  pub answered : answer-of (r .answer) ≡ plan-answer bytes
+  pub held : plan-answer bytes ≡ accepted → Holds bytes (plan-with r first second predecessors)
+  pub no-plan : (number : ℕ) → plan-answer bytes ≡ refused number → r ≡ no-heading (r .answer)

@@ -59,8 +59,10 @@ abbrev pub no-heading : PlanAnswer → Heading
 no-heading answer = record { answer = answer; responsiveness = 0; utilization = 0; «quantum_length» = 0; tasks = 0 }
 
 -- the answer is the first "no"; where there is none, the heading and the arrays hold the plan; a refusal leaves zeros in the heading, and
--- promises nothing of the arrays
-pub record RightHeading (bytes : List ℕ) (r : Heading) (first second predecessors : List ℕ) : Type 0 where
+-- each array as it came. With a prime: after the call.
+pub record RightHeading (bytes : List ℕ) (r : Heading) (first second predecessors first′ second′ predecessors′ : List ℕ) : Type 0 where
   pub answered : answer-of (r .answer) ≡ plan-answer bytes
-  pub held : plan-answer bytes ≡ accepted → Holds bytes (plan-with r first second predecessors)
+  pub held : plan-answer bytes ≡ accepted → Holds bytes (plan-with r first′ second′ predecessors′)
   pub no-plan : (number : ℕ) → plan-answer bytes ≡ refused number → r ≡ no-heading (r .answer)
+  pub kept : (number : ℕ) → plan-answer bytes ≡ refused number →
+      (first′ ≡ first) × (second′ ≡ second) × (predecessors′ ≡ predecessors)

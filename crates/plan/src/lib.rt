@@ -7,7 +7,7 @@ ghost use lib.ListN.{drop};
 ghost use Rattle.model.specs.Tests.{below, every};
 ghost use Rattle.model.specs.Questions.{first-no, answer-number};
 ghost use Rattle.plan.specs.Answers.{answer-of, passes};
-ghost use Rattle.plan.specs.Contracts.{HeaderOf, five-bytes, TaskOf, three-bytes, field-questions, pair-questions, noted, Due, TaskRead, TasksRead, one-or-two, followed, HeaderRead};
+ghost use Rattle.plan.specs.Contracts.{HeaderOf, five-bytes, TaskOf, three-bytes, field-questions, pair-questions, noted, Due, TaskRead, TasksRead, one-or-two, followed, HeaderRead, HeadingRead};
 ghost use Rattle.plan.specs.Promise.{blank, no-heading, RightReading, RightHeading};
 
 // One case for each number of the paper, which answer-of gives.
@@ -116,6 +116,7 @@ fn header_answer(h: Header, size: usize) -> PlanAnswer
     requires { ⌜ h .tasks ≤ 1024 ⌝ }
     ensures { λ r. ⌜ answer-of r ≡ first-no (field-questions (h .form) (h .responsiveness) (h .utilization) (h .quantum) (h .tasks) size) ⌝ }
 {
+    let whole = 5 + 3 * h.tasks;
     if h.form != 1 {
         return PlanAnswer::UnknownForm;
     }
@@ -131,7 +132,7 @@ fn header_answer(h: Header, size: usize) -> PlanAnswer
     if h.quantum < 1 {
         return PlanAnswer::NoQuantum;
     }
-    if size != 5 + 3 * h.tasks {
+    if size != whole {
         return PlanAnswer::WrongLength;
     }
     PlanAnswer::Accepted
@@ -308,7 +309,7 @@ fn read_graph(
     predecessors: &mut [u8; 1024],
 ) -> Heading
     requires { ⌜ HeaderRead (now bytes) h ⌝ }
-    ensures { λ r. ⌜ RightHeading (now (bytes .entry)) r (now (first .exit)) (now (second .exit)) (now (predecessors .exit)) ⌝ }
+    ensures { λ r. ⌜ HeadingRead (now (bytes .entry)) r (now (first .exit)) (now (second .exit)) (now (predecessors .exit)) ⌝ }
 {
     let n = h.tasks;
     *first = [0u16; 1024];
@@ -318,10 +319,13 @@ fn read_graph(
     if !passed(answer) {
         return refusal(answer);
     }
-    if !all_preceded(n, predecessors) {
+    // what 9 and 10 ask; 9 answers before 10
+    let preceded = all_preceded(n, predecessors);
+    let followed = one_exit(n, first);
+    if !preceded {
         return refusal(PlanAnswer::BadPredecessors);
     }
-    if !one_exit(n, first) {
+    if !followed {
         return refusal(PlanAnswer::LooseEnd);
     }
     predecessors[0] = 0;
@@ -334,14 +338,15 @@ fn read_graph(
     }
 }
 
-// The plan of any bytes, its graph into lent arrays, or the number of the first "no". On a refusal the arrays have no meaning.
-pub fn read_into(
+// The plan of any bytes, its graph over whatever the arrays had, or the number of the first "no". On a refusal the arrays have no meaning:
+// the caller lends arrays of its own and does not hand them on.
+fn read_over(
     bytes: &[u8],
     first: &mut [u16; 1024],
     second: &mut [u16; 1024],
     predecessors: &mut [u8; 1024],
 ) -> Heading
-    ensures { λ r. ⌜ RightHeading (now (bytes .entry)) r (now (first .exit)) (now (second .exit)) (now (predecessors .exit)) ⌝ }
+    ensures { λ r. ⌜ HeadingRead (now (bytes .entry)) r (now (first .exit)) (now (second .exit)) (now (predecessors .exit)) ⌝ }
 {
     if bytes.len() < 5 {
         return refusal(PlanAnswer::Short);
@@ -352,6 +357,30 @@ pub fn read_into(
         return refusal(answer);
     }
     read_graph(bytes, h, first, second, predecessors)
+}
+
+// The plan of any bytes, its graph into lent arrays, or the number of the first "no". Refused, the arrays stay as they came.
+pub fn read_into(
+    bytes: &[u8],
+    first: &mut [u16; 1024],
+    second: &mut [u16; 1024],
+    predecessors: &mut [u8; 1024],
+) -> Heading
+    ensures { λ r. ⌜ RightHeading (now (bytes .entry)) r (now (first .entry)) (now (second .entry)) (now (predecessors .entry))
+        (now (first .exit)) (now (second .exit)) (now (predecessors .exit)) ⌝ }
+{
+    let mut its_first = [0u16; 1024];
+    let mut its_second = [0u16; 1024];
+    let mut its_counts = [0u8; 1024];
+    let heading = read_over(bytes, &mut its_first, &mut its_second, &mut its_counts);
+    let answer = heading.answer;
+    if !passed(answer) {
+        return heading;
+    }
+    *first = its_first;
+    *second = its_second;
+    *predecessors = its_counts;
+    heading
 }
 
 // No plan: the blank stands beside the answer.
@@ -379,7 +408,7 @@ pub fn read(bytes: &[u8]) -> Reading
     let mut first = [0u16; 1024];
     let mut second = [0u16; 1024];
     let mut predecessors = [0u8; 1024];
-    let heading = read_into(bytes, &mut first, &mut second, &mut predecessors);
+    let heading = read_over(bytes, &mut first, &mut second, &mut predecessors);
     let answer = heading.answer;
     if !passed(answer) {
         return no_reading(answer);

@@ -33,43 +33,41 @@ returns c =
 all-preceded-requires : tie.Need-all-preceded-requires
 all-preceded-requires c κs = search needs
 
+one-exit-requires : tie.Need-one-exit-requires
+one-exit-requires c κs = search needs
+
 refusal-requires-2 : tie.Need-refusal-requires-2
 refusal-requires-2 c κs = search needs
 
 returns-2 : tie.Need-returns-2
 returns-2 c =
-    let e = c .before .before .before .before in
+    let o = c .before .before in
+    let a = o .before .before in
+    let e = a .before .before in
     let p = e .before in
     right-refusal _ _ _ _ _ _
     (refused-9 _ _ (start p .pre) _ _ _ _ (p .before .read-tasks .ensures) (holds-8 e)
-    (sym (c .before .before .all-preceded .ensures) ∙ not-true _ (c .before .if2 .taken)))
+    (sym (a .all-preceded .ensures) ∙ not-true _ (c .before .if2 .taken)))
     refl (c .refusal2 .ensures)
-
-one-exit-requires : tie.Need-one-exit-requires
-one-exit-requires c κs = search needs
 
 refusal-requires-3 : tie.Need-refusal-requires-3
 refusal-requires-3 c κs = search needs
 
 returns-3 : tie.Need-returns-3
 returns-3 c =
-    let n = c .before .before .before .before in
-    let e = n .before .before .before in
+    let n = c .before .before in
+    let o = n .before in
+    let a = o .before .before in
+    let e = a .before .before in
     let p = e .before in
     right-refusal _ _ _ _ _ _
     (refused-10 _ _ (start p .pre) _ _ _ _ (p .before .read-tasks .ensures) (holds-8 e)
-    (sym (n .before .all-preceded .ensures) ∙ not-false _ (n .if2 .left))
-    (sym (c .before .before .one-exit .ensures) ∙ not-true _ (c .before .if3 .taken)))
+    (sym (a .all-preceded .ensures) ∙ not-false _ (n .if2 .left))
+    (sym (o .one-exit .ensures) ∙ not-true _ (c .before .if3 .taken)))
     refl (c .refusal3 .ensures)
 
 element-write-predecessors : tie.Need-element-write-predecessors
 element-write-predecessors c = search needs
-
-cast-t20 : tie.Need-cast-t20
-cast-t20 c = search needs
-
-cast-t21 : tie.Need-cast-t21
-cast-t21 c = search needs
 
 cast-t22 : tie.Need-cast-t22
 cast-t22 c = search needs
@@ -77,15 +75,23 @@ cast-t22 c = search needs
 cast-t23 : tie.Need-cast-t23
 cast-t23 c = search needs
 
+cast-t24 : tie.Need-cast-t24
+cast-t24 c = search needs
+
+cast-t25 : tie.Need-cast-t25
+cast-t25 c = search needs
+
 returns-4 : tie.Need-returns-4
 returns-4 c =
     let t = c .before .before .before in
-    let n = t .before .before .before in
-    let e = n .before .before .before in
+    let n = t .before in
+    let o = n .before in
+    let a = o .before .before in
+    let e = a .before .before in
     let p = e .before in
     accepted-whole _ _ (start p .pre) _ _ _ _ (p .before .read-tasks .ensures) (holds-8 e)
-    (sym (n .before .all-preceded .ensures) ∙ not-false _ (n .if2 .left))
-    (sym (t .before .one-exit .ensures) ∙ not-false _ (t .if3 .left))
+    (sym (a .all-preceded .ensures) ∙ not-false _ (n .if2 .left))
+    (sym (o .one-exit .ensures) ∙ not-false _ (t .if3 .left))
     _ refl refl refl refl refl
 
 pub read-graph-spec : {M : Type 1} → statement M
@@ -97,14 +103,14 @@ read-graph-spec =
     refusal-requires
     returns
     all-preceded-requires
+    one-exit-requires
     refusal-requires-2
     returns-2
-    one-exit-requires
     refusal-requires-3
     returns-3
     element-write-predecessors
-    cast-t20
-    cast-t21
     cast-t22
     cast-t23
+    cast-t24
+    cast-t25
     returns-4)
