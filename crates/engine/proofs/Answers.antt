@@ -14,6 +14,7 @@ use lib.ListN.{length, getD, drop}
 use lib.Seq.{drop-cons, drop-length}
 use Rattle.model.specs.Tests.{every}
 use Rattle.model.specs.Questions.{accepted, refused, first-no}
+use Rattle.model.specs.Machine.{quantum-limit}
 use Rattle.deque.specs.declared.Numbers.{Numbers}
 use Rattle.engine.specs.declared.Course.{Course}
 use Rattle.engine.specs.declared.CallAnswer.{CallAnswer}
@@ -33,19 +34,19 @@ module _ (m : Numbers) (c : Course) (g : ℕ) where
   unfolding grant-asked first-no
   grant-12 a b = rw (ne-eqb (m .done) (m .tasks) a, b)
 
-  pub grant-13 : (m .done ≡ m .tasks → ⊥) → c .«is_open» ≡ false → 65535 ≤ c .begun → refused 13 ≡ first-no (grant-asked m c g)
+  pub grant-13 : (m .done ≡ m .tasks → ⊥) → c .«is_open» ≡ false → quantum-limit ≤ c .begun → refused 13 ≡ first-no (grant-asked m c g)
   unfolding grant-asked first-no
-  grant-13 a b d = rw (ne-eqb (m .done) (m .tasks) a, b, le-ltb (c .begun) 65535 d)
+  grant-13 a b d = rw (ne-eqb (m .done) (m .tasks) a, b, le-ltb (c .begun) quantum-limit d)
 
-  pub grant-14 : (m .done ≡ m .tasks → ⊥) → c .«is_open» ≡ false → c .begun < 65535 → c .desire < g →
+  pub grant-14 : (m .done ≡ m .tasks → ⊥) → c .«is_open» ≡ false → c .begun < quantum-limit → c .desire < g →
       refused 14 ≡ first-no (grant-asked m c g)
   unfolding grant-asked first-no
-  grant-14 a b d e = rw (ne-eqb (m .done) (m .tasks) a, b, lt-ltb (c .begun) 65535 d, lt-leb g (c .desire) e)
+  grant-14 a b d e = rw (ne-eqb (m .done) (m .tasks) a, b, lt-ltb (c .begun) quantum-limit d, lt-leb g (c .desire) e)
 
-  pub grant-yes : (m .done ≡ m .tasks → ⊥) → c .«is_open» ≡ false → c .begun < 65535 → g ≤ c .desire →
+  pub grant-yes : (m .done ≡ m .tasks → ⊥) → c .«is_open» ≡ false → c .begun < quantum-limit → g ≤ c .desire →
       accepted ≡ first-no (grant-asked m c g)
   unfolding grant-asked first-no
-  grant-yes a b d e = rw (ne-eqb (m .done) (m .tasks) a, b, lt-ltb (c .begun) 65535 d, le-leb g (c .desire) e)
+  grant-yes a b d e = rw (ne-eqb (m .done) (m .tasks) a, b, lt-ltb (c .begun) quantum-limit d, le-leb g (c .desire) e)
 
 -- ---- a tick's questions, 11 and 15 to 17
 

@@ -10,7 +10,7 @@ use lib.Dec.{eqb}
 use lib.ListN.{length}
 use Rattle.model.specs.Questions.{accepted, first-no}
 use Rattle.model.specs.Plan.{Plan}
-use Rattle.model.specs.Machine.{Execution, State, opened, Call, grants, call-answer, step}
+use Rattle.model.specs.Machine.{quantum-limit, Execution, State, opened, Call, grants, call-answer, step}
 use Rattle.model.specs.Machine as machine
 use Rattle.laws.proofs.Steps.{grant-accepted}
 use Rattle.deque.specs.declared.Numbers.{Numbers}
@@ -41,7 +41,7 @@ module _ {plan : Plan} {calls : List Call} {first second pending next ends : Lis
   grant-is-accepted = grant-asking pending next ends m (r .kept .done-right) c g ∙ asked
 
   -- more quanta may begin
-  pub begun-fits : c .begun < 65535
+  pub begun-fits : c .begun < quantum-limit
   unfolding state-view
   begun-fits = grant-accepted g (state-view pending next ends m c) grant-is-accepted .more-quanta
 

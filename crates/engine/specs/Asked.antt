@@ -6,6 +6,7 @@ use lib.Dec.{leb, ltb, eqb}
 use lib.ListN.{length}
 use Rattle.model.specs.Tests.{every}
 use Rattle.model.specs.Questions.{Question, ask}
+use Rattle.model.specs.Machine.{quantum-limit}
 use Rattle.deque.specs.declared.Numbers.{Numbers}
 use Rattle.engine.specs.declared.Course.{Course}
 
@@ -17,7 +18,7 @@ unfinished m = not (eqb (m .done) (m .tasks))
 unfoldable pub grant-asked : Numbers → Course → ℕ → List Question
 grant-asked m c g =
     ask (unfinished m) 11 ∷ ask (not (c .«is_open»)) 12
-    ∷ ask (ltb (c .begun) 65535) 13
+    ∷ ask (ltb (c .begun) quantum-limit) 13
     ∷ ask (leb g (c .desire)) 14
     ∷ []
 

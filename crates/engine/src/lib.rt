@@ -2,12 +2,16 @@
 ghost use mathlib.Core.Path.{_≡_};
 ghost use Prim.Native.Nat.{_<_};
 ghost use Rattle.model.specs.Questions.{answer-number, first-no};
+ghost use Rattle.model.specs.Machine.{quantum-limit};
 ghost use Rattle.engine.specs.Answers.{answer-of};
 ghost use Rattle.engine.specs.Asked.{grant-asked, tick-asked, choices-below};
 ghost use Rattle.engine.specs.Courses.{granted-course, Countable, CourseTicked};
 ghost use Rattle.engine.specs.Reached.{IsJob, IsJobWith};
 ghost use Rattle.engine.specs.Moves.{GrantMoves, TickMoves};
 use deque::Numbers;
+
+// So many quanta may begin: model's quantum-limit.
+const QUANTUM_LIMIT: u16 = 65535;
 
 // The plan's numbers, and those that calls move beside the execution.
 pub struct Course {
@@ -56,7 +60,7 @@ pub fn number(answer: CallAnswer) -> u8
 }
 
 // Questions 11 to 14.
-fn grant_answer(m: Numbers, c: Course, g: u8) -> CallAnswer
+fn grant_answer(m: Numbers, c: Course, g: u64) -> CallAnswer
     ensures { λ r. ⌜ answer-of r ≡ first-no (grant-asked m c g) ⌝ }
 {
     if m.done == m.tasks {
@@ -65,10 +69,10 @@ fn grant_answer(m: Numbers, c: Course, g: u8) -> CallAnswer
     if c.is_open {
         return CallAnswer::QuantumOpen;
     }
-    if c.begun >= 65535 {
+    if c.begun >= QUANTUM_LIMIT {
         return CallAnswer::QuantaSpent;
     }
-    if g > c.desire {
+    if g > c.desire as u64 {
         return CallAnswer::AboveDesire;
     }
     CallAnswer::Accepted
@@ -108,8 +112,8 @@ fn tick_answer(m: Numbers, c: Course, choices: &[u8]) -> CallAnswer
 }
 
 // An accepted grant of g opens a quantum.
-fn open_quantum(c: Course, g: u8) -> Course
-    requires { ⌜ c .begun < 65535 ⌝ }
+fn open_quantum(c: Course, g: u64) -> Course
+    requires { ⌜ c .begun < quantum-limit ⌝ }
     ensures { λ r. ⌜ r ≡ granted-course c g ⌝ }
 {
     let mut r = c;
@@ -123,8 +127,8 @@ fn open_quantum(c: Course, g: u8) -> Course
     r
 }
 
-// "A grant of g": the answer, and the job after it. Refused, it changes nothing.
-pub fn grant(ends: &mut [u16; 256], m: Numbers, c: Course, g: u8) -> Moved
+// "A grant of g", any number of workers: the answer, and the job after it. Refused, it changes nothing.
+pub fn grant(ends: &mut [u16; 256], m: Numbers, c: Course, g: u64) -> Moved
     requires { ⌜ IsJobWith (now ends) m c ⌝ }
     ensures { λ r. ⌜ GrantMoves g (now (ends .entry)) m c (now (ends .exit)) r ⌝ }
 {
@@ -136,7 +140,8 @@ pub fn grant(ends: &mut [u16; 256], m: Numbers, c: Course, g: u8) -> Moved
             course: c,
         };
     };
-    let numbers = allot::allot(ends, m, c.started, g);
+    let workers = g as u8;
+    let numbers = allot::allot(ends, m, c.started, workers);
     let course = open_quantum(c, g);
     Moved {
         answer: answer,

@@ -1,6 +1,7 @@
 -- `engine::grant` meets its contract: a refused grant leaves the job, and an accepted one is the model's grant.
 -- Assumes nothing.
 use mathlib.Core.Path.{_≡_, sym, ap, _∙_}
+use native.Mathlib.Omega.{arith}
 use borrow.Author.Needs.{needs}
 use Rattle.model.specs.Questions.{accepted, first-no}
 use Rattle.engine.specs.Answers.{answer-of}
@@ -23,6 +24,9 @@ enum-told c = search needs
 returns : tie.Need-returns
 returns c = refused-grant _ (c .before .grant-answer .ensures) (refusing _ (c .match .keys2))
 
+cast-workers : tie.Need-cast-workers
+cast-workers c = omega (arith, grantable _ (c .before .before .before .pre .6) (no-question-refuses c) .at-most)
+
 allot-requires : tie.Need-allot-requires
 allot-requires c κs = grantable _ (c .before .before .before .before .pre .6) (no-question-refuses (c .before))
 
@@ -35,4 +39,4 @@ returns-2 c =
     (accepted-grant _ (c .before .before .before .before .before .grant-answer .ensures) (c .before .before .before .enum-told .given .1) (c .before .allot .ensures))
 
 pub grant-spec : {M : Type 1} → statement M
-grant-spec = tie.close (tie.spec grant-answer-requires enum-told returns allot-requires open-quantum-requires returns-2)
+grant-spec = tie.close (tie.spec grant-answer-requires enum-told returns cast-workers allot-requires open-quantum-requires returns-2)

@@ -14,6 +14,9 @@ returns-2 c = grant-12 _ _ _ (c .before .if1 .left) (cc)
 returns-3 : tie.Need-returns-3
 returns-3 c = grant-13 _ _ _ (c .before .before .before .if1 .left) (cc) (omega arith)
 
+cast-if4 : tie.Need-cast-if4
+cast-if4 c = omega arith
+
 returns-4 : tie.Need-returns-4
 returns-4 c = grant-14 _ _ _ (c .before .before .before .before .before .if1 .left) (cc) (omega arith) (omega arith)
 
@@ -21,4 +24,4 @@ returns-5 : tie.Need-returns-5
 returns-5 c = grant-yes _ _ _ (c .before .before .before .before .before .if1 .left) (cc) (omega arith) (omega arith)
 
 pub grant-answer-spec : {M : Type 1} → statement M
-grant-answer-spec = tie.close (tie.spec returns returns-2 returns-3 returns-4 returns-5)
+grant-answer-spec = tie.close (tie.spec returns returns-2 returns-3 cast-if4 returns-4 returns-5)
