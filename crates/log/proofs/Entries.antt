@@ -1,4 +1,4 @@
--- The entry at a place of a log is the first of model's entries from that place on.
+-- The entry at a place of a log is the first of model's entries from that place on, and the others are those from the place past it.
 -- Assumes nothing.
 use mathlib.Core.Path.{_≡_, refl, sym, ap, _∙_}
 use mathlib.Core.Bool.{Bool, true, false, cond}
@@ -14,7 +14,7 @@ use Rattle.model.specs.Log.{Entries, entry-then, choices-announced, entry-whole
 use Rattle.model.specs.Machine.{grants, ticks}
 use Rattle.log.specs.declared.Entry.{Entry}
 use Rattle.log.specs.declared.Entry.the-variants.{Grant, Tick, Broken, End}
-use Rattle.log.specs.Reading.{begun-by, entry-of, entries-by}
+use Rattle.log.specs.Reading.{begun-by, entry-of, past-entry, past, then-entries}
 
 -- ---- the bound on the number of entries does not matter
 
@@ -45,21 +45,25 @@ entries-cons first after =
 
 -- ---- the entry at a place
 
--- with the byte after the first at `start`, by the first byte's top bit and by whether so many choices are there
+-- an entry that stands at `at`, with the entries from the place past it
+abbrev from-here : List ℕ → ℕ → Entry → Entries
+from-here log at entry = then-entries log entry (entries (drop (past-entry at entry) log))
+
+-- by the first byte's top bit and by whether so many choices are there
 module _ (log : List ℕ) (at byte : ℕ) where
   abbrev after : List ℕ
   after = drop (at + 1) log
 
   tick-begun : (whole : Bool) →
       cond whole (entry-then (ticks (take (byte - 128) after)) (entries (drop (byte - 128) after))) (record { calls = []; broken = true })
-      ≡ entries-by log at (cond whole (Tick (at + 1) (byte - 128)) Broken)
+      ≡ from-here log at (cond whole (Tick (at + 1) (byte - 128)) Broken)
   tick-begun true = rw drop-drop
   tick-begun false = refl
 
   begun : (is-grant : Bool) → ltb byte 128 ≡ is-grant →
       cond (entry-whole byte after) (entry-then (entry-call byte after) (entries (drop (choices-announced byte) after)))
       (record { calls = []; broken = true })
-      ≡ entries-by log at (begun-by byte (at + 1) (length log - (at + 1)))
+      ≡ from-here log at (begun-by byte (at + 1) (length log - (at + 1)))
   begun true e = rw (e, le-leb 0 (length after) (omega arith))
   begun false e = rw (e, length-drop) (tick-begun (leb (byte - 128) (length log - (at + 1))))
 
@@ -68,7 +72,7 @@ first-byte log at h = rw (add-one, drop-cons log at 0)
 
 -- by whether there is a byte
 at-place : (log : List ℕ) (at : ℕ) (more : Bool) → ltb at (length log) ≡ more →
-    entries (drop at log) ≡ entries-by log at (cond more (begun-by (getD log at 0) (at + 1) (length log - (at + 1))) End)
+    entries (drop at log) ≡ from-here log at (cond more (begun-by (getD log at 0) (at + 1) (length log - (at + 1))) End)
 unfolding entries entries-up-to
 at-place log at true e =
     ap entries (first-byte log at (ltb-true at (length log) e))
@@ -76,7 +80,8 @@ at-place log at true e =
     ∙ begun log at (getD log at 0) (ltb (getD log at 0) 128) refl
 at-place log at false e = rw (drop-of-length-le log (ltb-false at (length log) e))
 
-pub entries-at : (log : List ℕ) (at : ℕ) → entries (drop at log) ≡ entries-by log at (entry-of log at)
+-- model's entries from a place on are the entry there, and then model's entries from the place past it on
+pub entries-at : (log : List ℕ) (at : ℕ) → entries (drop at log) ≡ then-entries log (entry-of log at) (entries (drop (past log at) log))
 unfolding entry-of
 entries-at log at = at-place log at (ltb at (length log)) refl
 
@@ -104,25 +109,37 @@ pub entry-inside : (log : List ℕ) (at : ℕ) → Inside log at (entry-of log a
 unfolding entry-of
 entry-inside log at = place-inside log at (ltb at (length log)) refl
 
--- ---- an entry that was read
+-- ---- an entry that was read, and the place past it
 
-pub record ReadAt (log : List ℕ) (at : ℕ) (entry : Entry) : Type 0 where
+pub record ReadAt (log : List ℕ) (at : ℕ) (entry : Entry) (next : ℕ) : Type 0 where
   pub is : entry-of log at ≡ entry
+  pub leads-to : next ≡ past-entry at entry
 
-module _ {log : List ℕ} {at : ℕ} where
-  pub grant-inside : {g : ℕ} → ReadAt log at (Grant g) → at < length log
-  grant-inside read = rw (read .is) at (entry-inside log at)
+pub read-at : {log : List ℕ} {at next : ℕ} {entry : Entry} → entry-of log at ≡ entry → next ≡ past log at → ReadAt log at entry next
+read-at {at = at} is leads-to = record { is = is; leads-to = leads-to ∙ ap (past-entry at) is }
 
-  pub tick-inside : {start count : ℕ} → ReadAt log at (Tick start count) → (start ≡ at + 1) × (start + count ≤ length log)
-  tick-inside read = rw (read .is) at (entry-inside log at)
+module _ {log : List ℕ} {at next : ℕ} where
+  pub grant-inside : {g : ℕ} → ReadAt log at (Grant g) next → (next ≡ at + 1) × (next ≤ length log)
+  grant-inside {g} read =
+      let within : Inside log at (Grant g) = rw (read .is) at (entry-inside log at) in
+      (read .leads-to, omega (arith, within, read .leads-to))
 
-  -- the entries from there on are those of its case
-  pub entries-read : {entry : Entry} → ReadAt log at entry → entries (drop at log) ≡ entries-by log at entry
-  entries-read read = entries-at log at ∙ ap (entries-by log at) (read .is)
+  pub tick-inside : {start count : ℕ} → ReadAt log at (Tick start count) next →
+      (start ≡ at + 1) × (next ≡ start + count) × (next ≤ length log)
+  tick-inside {start} {count} read =
+      let within : Inside log at (Tick start count) = rw (read .is) at (entry-inside log at) in
+      (within .0, read .leads-to, omega (arith, within .1, read .leads-to))
 
-  -- the choices, as the part of the log from their start to their end
-  pub choices-read : {start count : ℕ} → ReadAt log at (Tick start count) →
-      entries (drop at log) ≡ entry-then (ticks (take (start + count - start) (drop start log))) (entries (drop (start + count) log))
+  -- the entries from there on are those of its case, with those from the place past it
+  pub entries-read : {entry : Entry} → ReadAt log at entry next → entries (drop at log) ≡ then-entries log entry (entries (drop next log))
+  entries-read {entry} read =
+      entries-at log at
+      ∙ ap (from-here log at) (read .is)
+      ∙ ap (λ place. then-entries log entry (entries (drop place log))) (sym (read .leads-to))
+
+  -- the choices, as the part of the log from their start to the next entry
+  pub choices-read : {start count : ℕ} → ReadAt log at (Tick start count) next →
+      entries (drop at log) ≡ entry-then (ticks (take (next - start) (drop start log))) (entries (drop next log))
   choices-read {start} {count} read =
-      let same : start + count - start ≡ count = omega arith in
+      let same : next - start ≡ count = omega (arith, read .leads-to) in
       rw same (entries-read read)

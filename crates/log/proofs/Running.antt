@@ -6,7 +6,7 @@ use mathlib.Core.Bool.{Bool, cond}
 use mathlib.Core.List.{List, [], _∷_, _++_, append-assoc, append-nil}
 use Prim.Native.Nat.{ℕ, _+_, _≤_, _<_}
 use native.Mathlib.Omega.{arith}
-use lib.ListN.{length, drop}
+use lib.ListN.{length, drop, length-append}
 use Rattle.model.specs.Questions.{Answer, accepted, refused}
 use Rattle.model.specs.Plan.{Plan}
 use Rattle.model.specs.Machine.{Call, grants, call-answer, step}
@@ -17,15 +17,15 @@ use Rattle.engine.specs.declared.Moved.{Moved}
 use Rattle.engine.specs.View.{plan-view, state-view}
 use Rattle.engine.specs.Answers.{answer-of}
 use Rattle.engine.specs.Reached.{Reached}
-use Rattle.engine.specs.Moves.{Moves, GrantMoves}
+use Rattle.engine.specs.Moves.{Moves, Unchanged, GrantMoves}
 use Rattle.log.specs.declared.Place.{Place}
 use Rattle.log.specs.declared.LogAnswer.{LogAnswer}
 use Rattle.log.specs.declared.Ran.{Ran as Ended}
-use Rattle.log.specs.Running.{log-answer-of, counted-at, ended-at, Runs}
+use Rattle.log.specs.Running.{log-answer-of, counted-at, ended-at, Untouched, Runs}
 
 -- ---- model's run of one call more
 
-abbrev called : Plan → Call → Ran → Ran
+abbrev pub called : Plan → Call → Ran → Ran
 called plan call ran =
     record {
       state = step plan call (ran .state);
@@ -41,6 +41,33 @@ run-one-more plan (first ∷ done) call ran = run-one-more plan done call (calle
 pub refusals-at-most : (answer : Answer) → refusals-in answer ≤ 1
 refusals-at-most accepted = omega arith
 refusals-at-most (refused n) = omega arith
+
+-- a call is not refused more than once: where as many are refused as there are, this one is, and so were those before it
+all-refused-before : (refusals : ℕ) (done : List Call) (call : Call) (answer : Answer) → refusals ≤ length done →
+    refusals + refusals-in answer ≡ length (done ++ call ∷ []) → refusals ≡ length done
+all-refused-before refusals done call answer few all =
+    omega (arith, few, all, refusals-at-most answer, length-append done (call ∷ []))
+
+this-refused : (refusals : ℕ) (done : List Call) (call : Call) (answer : Answer) → refusals ≤ length done →
+    refusals + refusals-in answer ≡ length (done ++ call ∷ []) → (n : ℕ) × (answer ≡ refused n)
+this-refused refusals done call accepted few all = absurd (omega (arith, few, all, length-append done (call ∷ [])))
+this-refused refusals done call (refused n) few all = (n, refl)
+
+-- a call that changes nothing, after calls that changed nothing
+module _ {pending₀ next₀ ends₀ : List ℕ} {m : Numbers} {c : Course} {pending next ends : List ℕ} {m₁ : Numbers} {c₁ : Course}
+    {pending′ next′ ends′ : List ℕ} {moved : Moved}
+  where
+    untouched-again : Untouched pending₀ next₀ ends₀ m c pending next ends m₁ c₁ →
+        Unchanged pending next ends m₁ c₁ pending′ next′ ends′ moved →
+        Untouched pending₀ next₀ ends₀ m c pending′ next′ ends′ (moved .numbers) (moved .course)
+    untouched-again so-far again =
+        record {
+          same-pending = again .same-pending ∙ so-far .same-pending;
+          same-next = again .same-next ∙ so-far .same-next;
+          same-ends = again .same-ends ∙ so-far .same-ends;
+          same-numbers = again .same-numbers ∙ so-far .same-numbers;
+          same-course = again .same-course ∙ so-far .same-course;
+        }
 
 -- ---- after the entries so far
 
@@ -60,6 +87,9 @@ module _ (log first second pending₀ next₀ ends₀ : List ℕ) (m : Numbers) 
         Reached plan (calls ++ done) first second pending next ends (place .numbers) (place .course)
     pub few : place .refusals ≤ place .at
     pub inside : place .at ≤ length log
+    pub refused-of-done : place .refusals ≤ length done
+    pub untouched-so-far : place .refusals ≡ length done →
+        Untouched pending₀ next₀ ends₀ m c pending next ends (place .numbers) (place .course)
 
   pub starts : SoFar pending₀ next₀ ends₀ (record { numbers = m; course = c; refusals = 0; at = 0 })
   unfolding run-calls
@@ -72,6 +102,8 @@ module _ (log first second pending₀ next₀ ends₀ : List ℕ) (m : Numbers) 
         reached-so-far = λ plan calls r. rw append-nil r;
         few = omega arith;
         inside = omega arith;
+        refused-of-done = omega arith;
+        untouched-so-far = λ all. record { same-pending = refl; same-next = refl; same-ends = refl; same-numbers = refl; same-course = refl };
       }
 
   module _ (plan : Plan) (calls : List Call) (reached : Reached plan calls first second pending₀ next₀ ends₀ m c)
@@ -103,10 +135,12 @@ module _ (log first second pending₀ next₀ ends₀ : List ℕ) (m : Numbers) 
       -- one call more, with the next entry at `at`
       pub one-more : (call : Call) {pending′ next′ ends′ : List ℕ} {moved : Moved} (at : ℕ) {after : Place} →
           Moves call first second pending next ends (place .numbers) (place .course) pending′ next′ ends′ moved →
+          ((n : ℕ) → answer-of (moved .answer) ≡ refused n →
+          Unchanged pending next ends (place .numbers) (place .course) pending′ next′ ends′ moved) →
           after ≡ counted-at moved (place .refusals) at →
           entries (drop (place .at) log) ≡ entry-then call (entries (drop at log)) → place .at < at → at ≤ length log →
           SoFar pending′ next′ ends′ after
-      one-more call {pending′} {next′} {ends′} {moved} at moves e here further within =
+      one-more call {pending′} {next′} {ends′} {moved} at moves refusal e here further within =
           rw e
           (record {
             done = so-far .done ++ call ∷ [];
@@ -124,6 +158,15 @@ module _ (log first second pending₀ next₀ ends₀ : List ℕ) (m : Numbers) 
                 rw (← append-assoc) (moves .reached plan (calls ++ so-far .done) (so-far .reached-so-far plan calls r));
             few = omega (arith, so-far .few, refusals-at-most (answer-of (moved .answer)));
             inside = within;
+            refused-of-done =
+                omega (arith, so-far .refused-of-done, refusals-at-most (answer-of (moved .answer)), length-append (so-far .done) (call ∷ []));
+            untouched-so-far =
+                λ all.
+                let this = this-refused (place .refusals) (so-far .done) call (answer-of (moved .answer)) (so-far .refused-of-done) all in
+                untouched-again
+                (so-far .untouched-so-far
+                (all-refused-before (place .refusals) (so-far .done) call (answer-of (moved .answer)) (so-far .refused-of-done) all))
+                (refusal (this .0) (this .1));
           })
 
       -- the log ends here, with a broken entry or without
@@ -143,4 +186,6 @@ module _ (log first second pending₀ next₀ ends₀ : List ℕ) (m : Numbers) 
             refusals-counted = sym (ap (λ (r : Ran). r .refusals) ran);
             answered = number ∙ ap (λ b. cond b (refused 18) accepted) (sym (so-far .broken-left ∙ ap (λ (e : Entries). e .broken) here));
             reached = λ plan calls r. rw all (so-far .reached-so-far plan calls r);
+            untouched =
+                λ refusals. so-far .untouched-so-far (sym (ap (λ (r : Ran). r .refusals) ran) ∙ refusals ∙ ap length all);
           })

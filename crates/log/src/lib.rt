@@ -5,7 +5,7 @@ ghost use Prim.Native.Nat.{_+_, _^_, _<_};
 ghost use Rattle.model.specs.Log.{refusals-in};
 ghost use Rattle.engine.specs.Answers.{answer-of};
 ghost use Rattle.engine.specs.Reached.{IsJob};
-ghost use Rattle.log.specs.Reading.{entry-of};
+ghost use Rattle.log.specs.Reading.{entry-of, past, started, entry-here, passed};
 ghost use Rattle.log.specs.Running.{counted-at, ended-at, Runs};
 use deque::Numbers;
 use engine::CallAnswer;
@@ -40,31 +40,65 @@ pub fn entry_at(log: &[u8], at: usize) -> Entry
     Entry::Tick(start, count)
 }
 
+// The place past the entry at a place. A broken entry and the log's end are not passed: the place stays.
+pub fn past_at(log: &[u8], at: usize) -> usize
+    ensures { λ r. ⌜ r ≡ past (now (log .entry)) at ⌝ }
+{
+    match entry_at(log, at) {
+        Entry::Grant(_) => at + 1,
+        Entry::Tick(start, count) => start + count,
+        Entry::Broken => at,
+        Entry::End => at,
+    }
+}
+
 // "Entries are read one after the other from the same lent bytes": a log, and a place in it.
 pub struct LogReader<'a> {
     pub log: &'a [u8],
     pub at: usize,
 }
 
-// A reader of this log at this place.
-pub fn reader<'a>(log: &'a [u8], at: usize) -> LogReader<'a>
-    ensures { λ r. ⌜ (r .log ≡ log .entry) × (r .at ≡ at) ⌝ }
+// A reader at the log's start.
+pub fn reader<'a>(log: &'a [u8]) -> LogReader<'a>
+    ensures { λ r. ⌜ r ≡ started (log .entry) ⌝ }
 {
-    LogReader { log, at }
+    LogReader { log, at: 0 }
 }
 
 // The entry at the reader's place.
 pub fn next_entry<'a>(r: LogReader<'a>) -> Entry
-    ensures { λ e. ⌜ e ≡ entry-of (now (r .entry .log)) (r .entry .at) ⌝ }
+    ensures { λ e. ⌜ e ≡ entry-here (r .entry) ⌝ }
 {
     entry_at(r.log, r.at)
 }
 
-// The same for a log and a place.
+// The reader past that entry, on the same lent bytes. At a broken entry and at the end it is the reader that it was.
+pub fn past_entry<'a>(r: LogReader<'a>) -> LogReader<'a>
+    ensures { λ p. ⌜ p ≡ passed (r .entry) ⌝ }
+{
+    let at = past_at(r.log, r.at);
+    LogReader { log: r.log, at }
+}
+
+// A function with a loop holds no reader, only its place. The place of a reader at the log's start.
+pub fn first_place(log: &[u8]) -> usize
+    ensures { λ r. ⌜ r ≡ 0 ⌝ }
+{
+    reader(log).at
+}
+
+// The entry of a reader at this place.
 pub fn read_entry(log: &[u8], at: usize) -> Entry
     ensures { λ e. ⌜ e ≡ entry-of (now (log .entry)) at ⌝ }
 {
-    next_entry(reader(log, at))
+    next_entry(LogReader { log, at })
+}
+
+// The place of the reader past that entry.
+pub fn next_place(log: &[u8], at: usize) -> usize
+    ensures { λ r. ⌜ r ≡ past (now (log .entry)) at ⌝ }
+{
+    past_entry(LogReader { log, at }).at
 }
 
 // How far a log was run: the job's numbers, the refused calls so far, and where the next entry stands.
@@ -155,7 +189,7 @@ pub fn run(
         numbers: m,
         course: c,
         refusals: 0,
-        at: 0,
+        at: first_place(log),
     };
     loop {
         let numbers = place.numbers;
@@ -164,11 +198,11 @@ pub fn run(
         let at = place.at;
         match read_entry(log, at) {
             Entry::Grant(g) => {
-                let moved = engine::grant(ends, numbers, course, g);
-                place = counted(moved, refusals, at + 1);
+                let moved = engine::grant(ends, numbers, course, g as u64);
+                place = counted(moved, refusals, next_place(log, at));
             }
-            Entry::Tick(start, count) => {
-                let end = start + count;
+            Entry::Tick(start, _) => {
+                let past = next_place(log, at);
                 let moved = engine::tick(
                     first,
                     second,
@@ -177,9 +211,9 @@ pub fn run(
                     ends,
                     numbers,
                     course,
-                    &log[start..end],
+                    &log[start..past],
                 );
-                place = counted(moved, refusals, end);
+                place = counted(moved, refusals, past);
             }
             Entry::Broken => return ended(place, LogAnswer::BrokenEntry),
             Entry::End => return ended(place, LogAnswer::Whole),
