@@ -322,6 +322,21 @@ static void test_lines(void)
     release_job(job);
 }
 
+/* Memory of zeros is no job, and after a refused plan it still is none. Who looks at it all the same, against the contract, sees a fresh
+ * job and not a finished one. */
+static void test_zeros(void)
+{
+    jirvaldo_job *job = job_block();
+    memset(job, 0, sizeof *job);
+    CHECK(jirvaldo_accept(job, NULL, 0) == JIRVALDO_PLAN_SHORT);
+    CHECK(jirvaldo_status(job) != JIRVALDO_STATUS_FINISHED);
+    CHECK(jirvaldo_status(job) == JIRVALDO_STATUS_FRESH);
+    CHECK(line_is(job, 0, "0 0 0 0 0 0 0 0 0 0"));
+    check_shown(job, 7);
+    check_wording(job, "a\nbc\ndef\ng\n", 0, 0, 1);
+    release_job(job);
+}
+
 static void test_sentences(void)
 {
     unsigned number, other;
@@ -606,6 +621,7 @@ int main(int count, char **arguments)
     test_logs();
     test_wordings();
     test_lines();
+    test_zeros();
     test_sentences();
     test_most_workers();
     test_threads();

@@ -19,6 +19,7 @@ use Rattle.laws.proofs.Lists.{count-set-none}
 use Rattle.laws.specs.Awaited.{still-awaited}
 use Rattle.laws.proofs.Readiness.{first-ready}
 use Rattle.laws.proofs.Awaiting.{awaits-none, awaited-at-first}
+use Rattle.deque.specs.declared.Numbers.{Numbers}
 use Rattle.deque.specs.View.{graph, successors-view, worked-view, deques-view, muggable-view}
 use Rattle.deque.specs.Sound.{awaited, Kept}
 use Rattle.deque.proofs.Tables.{table-length, table-at}
@@ -28,9 +29,10 @@ use Rattle.plan.specs.Promise.{Holds, RightReading, blank}
 use Rattle.plan.specs.declared.Reading.{Reading}
 use Rattle.plan.specs.declared.PlanRecord.{PlanRecord}
 use Rattle.plan.proofs.Sound.{accepted-sound}
+use Rattle.engine.specs.declared.Course.{Course}
 use Rattle.engine.specs.View.{plan-view, state-view}
 use Rattle.engine.specs.Reached.{Reached, AcceptedPlan}
-use Rattle.job.specs.View.{job-plan, job-state, ReachedBy}
+use Rattle.job.specs.View.{job-plan, job-state, ReachedBy, FromCalls, JobNumbers}
 use Rattle.job.specs.Promises.{fresh-job, no-numbers, fresh-course, blank-job, Accepting}
 use Rattle.job.specs.declared.Job.{Job}
 
@@ -137,10 +139,24 @@ accepting bytes reading right job is-fresh =
       no-record = λ number refusal. ap fresh-job (right .no-plan number refusal);
     })
 
--- "no record": a job has a task, and the blank has none
-pub blank-unreached : (plan : Plan) (calls : List Call) → ReachedBy plan calls blank-job → ⊥
-unfolding blank-job fresh-job no-numbers fresh-course blank plan-view
-blank-unreached plan calls r =
+-- ---- "no record": a job has a task, and the blank has none
+
+pub has-task : {plan : Plan} {calls : List Call} (first second : List ℕ) {pending next ends : List ℕ} (m : Numbers) (c : Course) →
+    Reached plan calls first second pending next ends m c → m .tasks ≡ 0 → ⊥
+unfolding plan-view
+has-task {plan} first second m c r none =
     let sound : SoundPlan plan = rw (r .accepted-plan .given) (accepted-sound (r .accepted-plan .bytes) (r .accepted-plan .answer)) in
-    let none : tasks plan ≡ 0 = ap tasks (sym (r .its-plan)) ∙ tasks-shown (replicate 1024 0) (replicate 1024 0) 0 in
+    let shown : tasks plan ≡ m .tasks = sym (ap tasks (r .its-plan)) ∙ tasks-shown first second (m .tasks) in
     omega (arith, sound .some-task)
+
+-- a record's numbers are a job's
+pub job-numbers : {job : Job} → FromCalls job → JobNumbers (job .numbers) (job .course)
+job-numbers {job} from = (job .ends, (from .0, from .1, job .first, job .second, job .pending, job .next, from .2))
+
+-- no plan, calls and arrays make the blank's numbers a job
+pub blank-numbers-unreached : JobNumbers (blank-job .numbers) (blank-job .course) → ⊥
+unfolding blank-job fresh-job no-numbers fresh-course blank
+blank-numbers-unreached (ends, job) = has-task (job .2) (job .3) (blank-job .numbers) (blank-job .course) (job .6) refl
+
+pub blank-unreached : (plan : Plan) (calls : List Call) → ReachedBy plan calls blank-job → ⊥
+blank-unreached plan calls r = blank-numbers-unreached (job-numbers {job = blank-job} (plan, calls, r))

@@ -62,7 +62,7 @@ fresh-job p =
     }
 
 -- what stands beside the number of a refused plan: the blank of plan reading, as if it were a plan. It is no record: no plan and no calls
--- reach it.
+-- reach it, and no arrays make its numbers a job. It has no task, so its numbers show as fresh and not as finished.
 unfoldable pub blank-job : Job
 blank-job = fresh-job blank
 

@@ -2,14 +2,14 @@
 // core `engine`.
 ghost use mathlib.Core.Path.{_≡_};
 ghost use Rattle.model.specs.Machine.{grants, ticks, status};
-ghost use Rattle.job.specs.View.{FromCalls, job-state};
+ghost use Rattle.job.specs.View.{FromCalls, JobNumbers, job-state};
 ghost use Rattle.status.specs.Number.{status-number};
-ghost use Rattle.job.specs.Status.{StatusOf};
+ghost use Rattle.job.specs.Status.{shown-status, StatusOf};
 ghost use Rattle.job.specs.Promises.{Accepting, Calling, no-numbers, fresh-course, fresh-job};
-use deque::MugCycles;
+use cycle_counts::MugCycles;
+use cycle_counts::StealCycles;
+use cycle_counts::WorkCycles;
 use deque::Numbers;
-use deque::StealCycles;
-use deque::WorkCycles;
 use engine::CallAnswer;
 use engine::Course;
 use plan::PlanAnswer;
@@ -48,9 +48,9 @@ pub fn no_numbers(tasks: u16) -> Numbers
         tasks,
         workers: 0,
         done: 0,
-        works: WorkCycles(0),
-        mugs: MugCycles(0),
-        steals: StealCycles(0),
+        works: WorkCycles::none(),
+        mugs: MugCycles::none(),
+        steals: StealCycles::none(),
         successes: 0,
         usage: 0,
         head: 0,
@@ -105,8 +105,8 @@ pub fn accept(bytes: &[u8]) -> Acceptance
     }
 }
 
-// A grant of g workers. Refused, the record comes back unchanged.
-pub fn grant(job: Job, g: u8) -> Called
+// A grant of g workers, any number. Refused, the record comes back unchanged.
+pub fn grant(job: Job, g: u64) -> Called
     requires { ⌜ FromCalls job ⌝ }
     ensures { λ r. ⌜ Calling (grants g) job r ⌝ }
 {
@@ -170,10 +170,13 @@ pub fn tick(job: Job, choices: &[u8]) -> Called
     }
 }
 
-// The status of a job, from its numbers.
-pub fn status_of(m: Numbers, c: Course) -> Status
-    ensures { λ r. ⌜ StatusOf m c r ⌝ }
+// The status that numbers show, whatever they are. Numbers without a task are no job's: they show as fresh and never as finished.
+fn shown_status(m: Numbers, c: Course) -> Status
+    ensures { λ r. ⌜ status-number r ≡ shown-status m c ⌝ }
 {
+    if m.tasks == 0 {
+        return Status::Fresh;
+    }
     if m.done == m.tasks {
         return Status::Finished;
     }
@@ -184,6 +187,14 @@ pub fn status_of(m: Numbers, c: Course) -> Status
         return Status::Held;
     }
     Status::Running
+}
+
+// The status of a job, from its numbers.
+pub fn status_of(m: Numbers, c: Course) -> Status
+    requires { ⌜ JobNumbers m c ⌝ }
+    ensures { λ r. ⌜ StatusOf m c r ⌝ }
+{
+    shown_status(m, c)
 }
 
 // The status of a record.

@@ -1,7 +1,6 @@
 // Document 01's examples on the job record by value. That the record may be handed to a call is shown from the contracts alone, as are
-// examples 3 and 4; the rest is run, and what it prints is compared.
+// examples 3 and 4; the rest is run, and what it prints, lines and wordings, is compared.
 ghost use Rattle.job.specs.View.{FromCalls};
-use counters::Counters;
 use counters::LineAnswer;
 use job::Job;
 use log::Entry;
@@ -47,19 +46,19 @@ fn played(job: Job, log: &[u8]) -> Job
     ensures { λ r. ⌜ FromCalls r ⌝ }
 {
     let mut now_job = job;
-    let mut at: usize = 0;
+    let mut at = log::first_place(log);
     loop {
         match log::read_entry(log, at) {
             Entry::Grant(g) => {
-                let called = job::grant(now_job, g);
+                let called = job::grant(now_job, g as u64);
                 now_job = called.job;
-                at = at + 1;
+                at = log::next_place(log, at);
             }
-            Entry::Tick(start, count) => {
-                let end = start + count;
-                let called = job::tick(now_job, &log[start..end]);
+            Entry::Tick(start, _) => {
+                let past = log::next_place(log, at);
+                let called = job::tick(now_job, &log[start..past]);
                 now_job = called.job;
-                at = end;
+                at = past;
             }
             Entry::Broken => return now_job,
             Entry::End => return now_job,
@@ -74,27 +73,39 @@ fn print_front(buffer: &[u8], size: usize) {
     }
 }
 
-// A counters line, on standard output, by way of a buffer.
-fn print(shown: Counters, buffer: &mut [u8]) {
-    match counters::write_line(shown, buffer) {
-        LineAnswer::Written(size) => print_front(buffer, size),
+// The counters line of a record.
+fn show_line(job: Job)
+    requires { ⌜ FromCalls job ⌝ }
+{
+    let mut line = [0u8; 128];
+    match report::job_line(job, 0, &mut line) {
+        LineAnswer::Written(size) => print_front(&line, size),
         LineAnswer::TooSmall => {}
     }
 }
 
-// The counters line of a record.
-fn show(job: Job) {
-    let mut line = [0u8; 128];
-    print(report::counters_of(job.numbers, job.course, 0), &mut line);
+// The wording of a record's status, the part of the sheet itself: `refusal [bytes]`.
+fn show_wording(job: Job, sheet: &[u8])
+    requires { ⌜ FromCalls job ⌝ }
+{
+    let mut refusal: u8 = 255;
+    let part = report::job_wording(job, sheet, &mut refusal);
+    let told = refusal;
+    io::print_decimal(1, told as u64);
+    io::write_all(1, b" [");
+    io::write_all(1, part);
+    io::write_all(1, b"]\n");
 }
 
-// Accepts a plan and plays a log on its record.
-fn example(bytes: &[u8], log: &[u8]) {
+// Accepts a plan and plays a log on its record; then its line, and its wording in a sheet.
+fn example(bytes: &[u8], log: &[u8], sheet: &[u8]) {
     let acceptance = job::accept(bytes);
     let answer = acceptance.answer;
     let job = acceptance.job;
     if plan::passed(answer) {
-        show(played(job, log));
+        let last = played(job, log);
+        show_line(last);
+        show_wording(last, sheet);
     }
 }
 
@@ -113,20 +124,30 @@ fn contracts_alone() {
 }
 
 fn main() {
+    let sheet = b"fresh\nrunning\nheld\nfinished\n";
     contracts_alone();
     // 1
-    example(&PLAN_A, &[1, 129, 0, 129, 0, 2, 130, 0, 0, 130, 0, 0]);
+    example(
+        &PLAN_A,
+        &[1, 129, 0, 129, 0, 2, 130, 0, 0, 130, 0, 0],
+        sheet,
+    );
     // 2
     example(
         &PLAN_A,
         &[1, 129, 0, 129, 0, 0, 128, 128, 1, 129, 0, 129, 0, 1, 129, 0],
+        sheet,
     );
+    // 2 as far as its grant of 0: held
+    example(&PLAN_A, &[1, 129, 0, 129, 0, 0], sheet);
     // 3
-    example(&PLAN_A, &[]);
+    example(&PLAN_A, &[], sheet);
     // 4: the first grant is refused, the second accepted
-    example(&PLAN_A, &[2, 0]);
+    example(&PLAN_A, &[2, 0], sheet);
     // 7: after the second tick worker 1 has stolen a task
-    example(&SEVEN, &[1, 129, 0, 2, 130, 0, 0]);
+    example(&SEVEN, &[1, 129, 0, 2, 130, 0, 0], sheet);
     // 9
-    example(&ONE, &[1, 129, 0]);
+    example(&ONE, &[1, 129, 0], sheet);
+    // 9 with a sheet that has no line for a finished job: 19 and an empty part
+    example(&ONE, &[1, 129, 0], b"fresh\nrunning\nheld\nfinished");
 }

@@ -18,7 +18,7 @@ use Rattle.counters.specs.Line.{numbers-of}
 use Rattle.counters.specs.Put.{put}
 use Rattle.counters.proofs.Put.{length-put, put-append, put-start}
 use Rattle.job.specs.declared.Acceptance.{Acceptance}
-use Rattle.job.specs.View.{job-plan, job-state, FromCalls}
+use Rattle.job.specs.View.{job-plan, job-state, FromCalls, JobNumbers}
 use Rattle.job.specs.Promises.{Accepting}
 use Rattle.engine.specs.View.{state-view}
 use Rattle.log.specs.declared.Ran.{Ran}
@@ -87,6 +87,12 @@ module _ (ran : Ran) (k : Counters) (of : CountersOf ran k) (b b' : List ℕ) (s
 module _ (bytes log : List ℕ) (a : Acceptance) (accepting : Accepting bytes a) (yes : plan-answer bytes ≡ accepted) where
   pub from-calls : FromCalls (a .job)
   from-calls = (plan-of bytes, [], accepting .reached yes)
+
+  -- the numbers that the log left are a job's
+  pub job-left : {ran : Ran} → RanOn log (a .job) ran → JobNumbers (ran .numbers) (ran .course)
+  job-left on =
+      let reached = on .runs .reached (plan-of bytes) [] (accepting .reached yes) in
+      (on .ends, (plan-of bytes, _, a .job .first, a .job .second, on .pending, on .next, reached))
 
   pub log-printed : (ran : Ran) (r : Output) → RanOn log (a .job) ran → PrintsRan ran r → Prints (log-output (plan-of bytes) log) r
   unfolding log-output

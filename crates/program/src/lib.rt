@@ -5,7 +5,7 @@ ghost use lib.ListN.{length};
 ghost use Rattle.model.specs.Plan.{plan-of, plan-answer};
 ghost use Rattle.model.specs.Program.{refused-line, log-output, output-by, program};
 ghost use Rattle.counters.specs.Put.{put};
-ghost use Rattle.job.specs.View.{FromCalls};
+ghost use Rattle.job.specs.View.{FromCalls, JobNumbers};
 ghost use Rattle.program.specs.Output.{Prints, LinePut, RanOn, CountersOf, PrintsRan};
 use counters::Counters;
 use counters::LineAnswer;
@@ -73,6 +73,7 @@ fn put_line(counters: Counters, out: &mut [u8]) -> usize
 
 // The ten numbers after a log.
 fn counters_of(ran: Ran) -> Counters
+    requires { ⌜ JobNumbers (ran .numbers) (ran .course) ⌝ }
     ensures { λ r. ⌜ CountersOf ran r ⌝ }
 {
     let m = ran.numbers;
@@ -82,6 +83,7 @@ fn counters_of(ran: Ran) -> Counters
 
 // The counters line, and after a broken log `refused 18`.
 fn ran_output(ran: Ran) -> Output
+    requires { ⌜ JobNumbers (ran .numbers) (ran .course) ⌝ }
     ensures { λ r. ⌜ PrintsRan ran r ⌝ }
 {
     let answer = ran.answer;

@@ -1,11 +1,14 @@
 // What a buyer is shown of a job record: the wording of its status, and its counters line.
 ghost use mathlib.Core.Path.{_≡_};
-ghost use Rattle.model.specs.Questions.{answer-number};
+ghost use denote.Ref.{ptr};
+ghost use Prim.Native.Nat.{_+_};
+ghost use lib.ListN.{length};
+ghost use Rattle.model.specs.Questions.{answer-number, by-answer};
 ghost use Rattle.model.specs.Machine.{status};
 ghost use Rattle.model.specs.Label.{label, label-answer, bytes-of};
-ghost use Rattle.model.specs.Counters.{counters-answer, buffer-after};
-ghost use Rattle.counters.specs.Line.{line-answer};
-ghost use Rattle.job.specs.View.{FromCalls, job-plan, job-state};
+ghost use Rattle.model.specs.Counters.{counters-line, counters-answer, buffer-after};
+ghost use Rattle.counters.specs.Line.{line-answer, line-length};
+ghost use Rattle.job.specs.View.{FromCalls, JobNumbers, job-plan, job-state};
 ghost use Rattle.report.specs.Shown.{CountersOf};
 use counters::Counters;
 use counters::LineAnswer;
@@ -15,36 +18,49 @@ use job::Job;
 
 // The ten numbers of a job, with a log's count of refused calls, 0 without a log.
 pub fn counters_of(m: Numbers, c: Course, refusals: u64) -> Counters
+    requires { ⌜ JobNumbers m c ⌝ }
     ensures { λ r. ⌜ CountersOf m c refusals r ⌝ }
 {
+    let works = m.works;
+    let mugs = m.mugs;
+    let steals = m.steals;
+    let work = works.number();
+    let mug = mugs.number();
+    let steal = steals.number();
     Counters {
         status: job::status_of(m, c),
         worked: m.done,
         tasks: m.tasks,
         desire: c.desire,
         allotment: m.workers,
-        work: m.works.0,
-        mug: m.mugs.0,
-        steal: m.steals.0,
+        work,
+        mug,
+        steal,
         successes: m.successes,
         refusals,
     }
 }
 
-// Writes a record's counters line at the start of a buffer of 128 bytes or more; a smaller buffer stays as it is.
+// Writes a record's counters line at the start of a buffer of 128 bytes or more, and answers how many bytes it has; a smaller buffer stays
+// as it is.
 pub fn job_line(job: Job, refusals: u64, buffer: &mut [u8]) -> LineAnswer
     requires { ⌜ FromCalls job ⌝ }
     ensures answer { λ r. ⌜ line-answer r ≡ counters-answer (now (buffer .entry)) ⌝ }
+    ensures size { λ r. ⌜ line-length r
+        ≡ by-answer (counters-answer (now (buffer .entry))) (length (counters-line (job-plan job) (job-state job) refusals)) 0 ⌝ }
     ensures bytes { λ _. ⌜ now (buffer .exit) ≡ buffer-after (job-plan job) (job-state job) refusals (now (buffer .entry)) ⌝ }
 {
     let shown = counters_of(job.numbers, job.course, refusals);
     counters::write_line(shown, buffer)
 }
 
-// The wording of a record's status: a part of the lent sheet, with 0 behind `refusal`; or an empty part with 19 behind it.
+// The wording of a record's status: the part of the lent sheet itself, where it stands there, with 0 behind `refusal`. Where the sheet has
+// no such line, the empty part at its start, with 19 behind `refusal`.
 pub fn job_wording<'a>(job: Job, sheet: &'a [u8], refusal: &mut u8) -> &'a [u8]
     requires { ⌜ FromCalls job ⌝ }
     ensures bytes { λ r. ⌜ now r ≡ bytes-of (now (sheet .entry)) (label (now (sheet .entry)) (status (job-state job))) ⌝ }
+    ensures place { λ r. ⌜ ptr r
+        ≡ (ptr (sheet .entry) .0, ptr (sheet .entry) .1 + label (now (sheet .entry)) (status (job-state job)) .start) ⌝ }
     ensures number { λ _. ⌜ now (refusal .exit) ≡ answer-number (label-answer (now (sheet .entry)) (status (job-state job))) ⌝ }
 {
     let shown = job::job_status(job);

@@ -234,3 +234,33 @@ impl Memory {
         &self.words
     }
 }
+
+#[cfg(test)]
+mod tests {
+    use super::*;
+
+    /// Zeros are no job, and after a refused plan they still are none; what is shown of them all the same is not "finished". No part but
+    /// the words is read here, and every word means something, so that nothing else can go wrong.
+    #[test]
+    fn zeros_do_not_show_as_finished() {
+        let mut memory = Memory {
+            words: [0; WORDS],
+            first: [0; MOST_TASKS],
+            second: [0; MOST_TASKS],
+            next: [0; MOST_TASKS],
+            ends: [0; ENDS],
+            pending: [0; MOST_TASKS],
+        };
+        assert_eq!(memory.replace(&[]), 1);
+        assert_ne!(memory.status(), 3);
+        assert_eq!(memory.status(), 0);
+        assert_eq!(memory.counters(0), [0; 10]);
+        assert_eq!(memory.wording(b"a\nb\nc\nd\n"), (0, 0, 1));
+        let mut buffer = [0; 128];
+        let (number, size) = memory.line(0, &mut buffer);
+        assert_eq!(
+            (number, &buffer[..size]),
+            (0, &b"0 0 0 0 0 0 0 0 0 0\n"[..])
+        );
+    }
+}

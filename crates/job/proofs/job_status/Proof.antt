@@ -1,11 +1,11 @@
 -- `job::job_status` meets its contract: the status of the numbers, at the record's own arrays.
 -- Assumes nothing.
-use borrow.Author.Needs.{needs}
+use Rattle.job.proofs.Accepts.{job-numbers}
 use Rattle.job.proofs.job_status.Statement.{statement}
 use Rattle.job.proofs.job_status.Tie as tie
 
 status-of-requires : tie.Need-status-of-requires
-status-of-requires c κs = search needs
+status-of-requires c κs = job-numbers (c .pre)
 
 returns : tie.Need-returns
 returns c =

@@ -1,4 +1,4 @@
--- `job_examples::example`: a passed answer is acceptance, so the record comes from calls.
+-- `job_examples::example`: a passed answer is acceptance, so the record comes from calls, and so does the one that is shown.
 -- Assumes nothing.
 use borrow.Author.Needs.{needs}
 use mathlib.Core.Path.{sym, _∙_}
@@ -15,8 +15,11 @@ passed-requires c κs = search needs
 played-requires : tie.Need-played-requires
 played-requires c κs = begun _ _ (c .before .before .before .accept .ensures) (passes-accepted _ (sym (c .before .passed .ensures) ∙ c .if1 .taken))
 
-show-requires : tie.Need-show-requires
-show-requires c κs = search needs
+show-line-requires : tie.Need-show-line-requires
+show-line-requires c κs = c .played .ensures
+
+show-wording-requires : tie.Need-show-wording-requires
+show-wording-requires c κs = c .before .played .ensures
 
 returns : tie.Need-returns
 returns c = search needs
@@ -27,4 +30,4 @@ returns-2 c = search needs
 pub example-spec : {M : Type 1} → statement M
 example-spec =
     tie.close
-    (tie.spec accept-requires passed-requires played-requires show-requires returns returns-2)
+    (tie.spec accept-requires passed-requires played-requires show-line-requires show-wording-requires returns returns-2)

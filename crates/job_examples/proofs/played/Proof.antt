@@ -9,7 +9,7 @@ use denote.Ref.{now}
 use lib.ListN.{length}
 use Rattle.job.specs.View.{FromCalls}
 use Rattle.log.specs.declared.Entry.the-variants.{Grant, Tick}
-use Rattle.log.proofs.Entries.{ReadAt, grant-inside, tick-inside}
+use Rattle.log.proofs.Entries.{ReadAt, read-at, grant-inside, tick-inside}
 use Rattle.job_examples.proofs.Calls.{onward}
 use Rattle.job_examples.proofs.played.Statement.{statement}
 use Rattle.job_examples.proofs.played.Tie as tie
@@ -22,13 +22,29 @@ Inv-loop log now-job₀ at₀ now-job at = FromCalls now-job
 abbrev μ-loop : tie.MeasureT-loop
 μ-loop log now-job₀ at₀ now-job at = length log - at
 
-grant-read : (c : tie.After-g Inv-loop μ-loop) →
-    ReadAt (now (c .before .before .before .before .before .args .log)) (c .before .before .before .loop .at) (Grant (c .g .given .0 .0))
-grant-read c = record { is = sym (c .before .before .read-entry .ensures) ∙ c .g .given .1 }
+-- ---- an entry that was read, and the place past it
 
-tick-read : (c : tie.After-start Inv-loop μ-loop) →
-    ReadAt (now (c .before .before .before .before .before .args .log)) (c .before .before .before .loop .at) (Tick (c .start .given .0 .0) (c .start .given .0 .1 .0))
-tick-read c = record { is = sym (c .before .before .read-entry .ensures) ∙ c .start .given .1 }
+abbrev Read : Type 0
+Read = tie.After-read-entry Inv-loop μ-loop
+
+abbrev log-of : Read → List ℕ
+log-of c = now (c .before .before .before .before .args .log)
+
+abbrev at-of : Read → ℕ
+at-of c = c .before .loop .at
+
+grant-read : (c : tie.After-next-place Inv-loop μ-loop) →
+    ReadAt (log-of (c .before .before .before .before .before .before)) (at-of (c .before .before .before .before .before .before)) (Grant (c .before .before .before .before .g .given .0 .0)) (c .next-place .result)
+grant-read c = read-at (sym (c .before .before .before .before .before .before .read-entry .ensures) ∙ c .before .before .before .before .g .given .1) (c .next-place .ensures)
+
+tick-read : (c : tie.After-next-place2 Inv-loop μ-loop) →
+    ReadAt (log-of (c .before .before .before .before)) (at-of (c .before .before .before .before)) (Tick (c .before .before .start .given .0 .0) (c .before .before .start .given .0 .1 .0)) (c .next-place2 .result)
+tick-read c = read-at (sym (c .before .before .before .before .read-entry .ensures) ∙ c .before .before .start .given .1) (c .next-place2 .ensures)
+
+-- ---- the needs
+
+first-place-requires : tie.Need-first-place-requires Inv-loop μ-loop
+first-place-requires c κs = search needs
 
 loop-holds : tie.Need-loop-holds Inv-loop μ-loop
 loop-holds c = search needs
@@ -39,41 +55,44 @@ read-entry-requires c κs = search needs
 enum-known-g : tie.Need-enum-known-g Inv-loop μ-loop
 enum-known-g c = search needs
 
+cast-grant : tie.Need-cast-grant Inv-loop μ-loop
+cast-grant c = omega arith
+
 grant-requires : tie.Need-grant-requires Inv-loop μ-loop
 grant-requires c κs = search needs
 
-add-at : tie.Need-add-at Inv-loop μ-loop
-add-at c = omega (arith, grant-inside (grant-read (c .before .before .before)), c .before .before .before .before .before .before .before .before .good .1 .0)
+next-place-requires : tie.Need-next-place-requires Inv-loop μ-loop
+next-place-requires c κs = search needs
 
 loop-less : tie.Need-loop-less Inv-loop μ-loop
-loop-less c = omega (arith, grant-inside (grant-read (c .before .before .before)))
+loop-less c = omega (arith, grant-inside (grant-read c))
 
 loop-again : tie.Need-loop-again Inv-loop μ-loop
-loop-again c = onward (c .before .before .before .before .before .before .loop .inv) (c .before .grant .ensures)
+loop-again c = onward (c .before .before .before .before .before .before .before .loop .inv) (c .before .before .grant .ensures)
 
 enum-known-start : tie.Need-enum-known-start Inv-loop μ-loop
 enum-known-start c = search needs
 
-add-end : tie.Need-add-end Inv-loop μ-loop
-add-end c = omega (arith, tick-inside (tick-read (c .before)), c .before .before .before .before .before .before .good .1 .0)
+next-place-requires-2 : tie.Need-next-place-requires-2 Inv-loop μ-loop
+next-place-requires-2 c κs = search needs
 
 sub-tick : tie.Need-sub-tick Inv-loop μ-loop
-sub-tick c = omega arith
+sub-tick c = omega (arith, tick-inside (tick-read c))
 
 part-tick-start : tie.Need-part-tick-start Inv-loop μ-loop
-part-tick-start c = omega arith
+part-tick-start c = omega (arith, tick-inside (tick-read c))
 
 part-tick-end : tie.Need-part-tick-end Inv-loop μ-loop
-part-tick-end c = tick-inside (tick-read (c .before)) .1
+part-tick-end c = tick-inside (tick-read c) .2
 
 tick-requires : tie.Need-tick-requires Inv-loop μ-loop
 tick-requires c κs = search needs
 
 loop-less-2 : tie.Need-loop-less-2 Inv-loop μ-loop
-loop-less-2 c = omega (arith, tick-inside (tick-read (c .before .before .before .before)))
+loop-less-2 c = omega (arith, tick-inside (tick-read (c .before .before .before)))
 
 loop-again-2 : tie.Need-loop-again-2 Inv-loop μ-loop
-loop-again-2 c = onward (c .before .before .before .before .before .before .before .loop .inv) (c .before .tick .ensures)
+loop-again-2 c = onward (c .before .before .before .before .before .before .before .before .loop .inv) (c .before .tick .ensures)
 
 enum-told : tie.Need-enum-told Inv-loop μ-loop
 enum-told c = search needs
@@ -93,15 +112,17 @@ played-spec =
     (tie.spec
     Inv-loop
     μ-loop
+    first-place-requires
     loop-holds
     read-entry-requires
     enum-known-g
+    cast-grant
     grant-requires
-    add-at
+    next-place-requires
     loop-less
     loop-again
     enum-known-start
-    add-end
+    next-place-requires-2
     sub-tick
     part-tick-start
     part-tick-end

@@ -3,7 +3,7 @@ use mathlib.Core.List.{[]}
 use borrow.Author.Needs.{needs}
 use borrow.Author.Tests.{not-true, not-false}
 use Rattle.program.proofs.Asked.{refused-plan, accepted-plan, after-plan}
-use Rattle.program.proofs.Ran.{from-calls, log-printed}
+use Rattle.program.proofs.Ran.{from-calls, job-left, log-printed}
 use Rattle.program.proofs.plan_output.Statement.{statement}
 use Rattle.program.proofs.plan_output.Tie as tie
 
@@ -32,7 +32,12 @@ run-log-requires c κs =
     from-calls _ [] _ accepting (accepted-plan _ _ _ (accepting .answered) (asked .passed .ensures) (not-false _ (c .before .if1 .left)))
 
 ran-output-requires : tie.Need-ran-output-requires
-ran-output-requires c κs = search needs
+ran-output-requires c κs =
+    let other = c .before .before in
+    let asked = other .before in
+    let accepting = asked .before .accept .ensures in
+    let yes = accepted-plan _ _ _ (accepting .answered) (asked .passed .ensures) (not-false _ (other .if1 .left)) in
+    job-left _ _ _ accepting yes (c .run-log .ensures)
 
 returns-2 : tie.Need-returns-2
 returns-2 c =

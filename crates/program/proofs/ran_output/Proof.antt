@@ -8,7 +8,7 @@ use Rattle.program.proofs.ran_output.Statement.{statement}
 use Rattle.program.proofs.ran_output.Tie as tie
 
 counters-of-requires : tie.Need-counters-of-requires
-counters-of-requires c κs = search needs
+counters-of-requires c κs = c .pre
 
 slice-aggregate-put-line : tie.Need-slice-aggregate-put-line
 slice-aggregate-put-line c = search needs

@@ -17,7 +17,7 @@ returns : tie.Need-returns
 returns c =
     let same = c .before .before .number-of .ensures ∙ c .before .before .before .job-status .ensures in
     let found = c .wording .ensures in
-    rw (← same) (found .0, found .1 .1)
+    rw (← same) (found .0, (found .1 .0, found .1 .1))
 
 pub job-wording-spec : {M : Type 1} → statement M
 job-wording-spec =
