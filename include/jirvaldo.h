@@ -140,7 +140,8 @@ static inline unsigned jirvaldo_tick(jirvaldo_job *job, const uint8_t *choices, 
 }
 
 /* Runs a log of any bytes, entry after entry, as the same grants and ticks would; refused ones are counted in *refused_calls and passed
- * over. 0: the log was whole. 18: its last entry is cut off; the job and the count are as the entries before left them. */
+ * over. 0: the log was whole. 18: its last entry is cut off; the job and the count are as the entries before left them. A log that moves
+ * nothing (empty, cut off in its first entry, or all its calls refused) leaves the job byte for byte as it was. */
 static inline unsigned jirvaldo_run_log(jirvaldo_job *job, const uint8_t *log, size_t size, uint64_t *refused_calls)
 {
     const uint8_t none = 0;

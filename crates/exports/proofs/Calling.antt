@@ -16,18 +16,20 @@ use Rattle.engine.specs.Reached.{Reached}
 use Rattle.engine.specs.Moves.{Moves, Unchanged, TickKeeps}
 use Rattle.engine.proofs.Answers.{IsRefusal}
 use Rattle.engine.proofs.Moving.{not-both}
-use Rattle.memory.specs.Held.{numbers-in, course-in, plan-in, state-in, ReachedIn, Unticked}
+use Rattle.memory.specs.Held.{numbers-in, course-in, words-of, plan-in, state-in, Packed, ReachedIn, Unticked}
+use Rattle.memory.proofs.Words.{Fit, numbers-read, course-read, packed as stored-packed}
 use Rattle.exports.specs.Steps.{Settled}
 use Rattle.exports.specs.Promises.{Calls}
 
 -- what a tick keeps of the numbers that were read it keeps of the words
-pub unticked : (words : List ℕ) {m : Numbers} {c : Course} {moved : Moved} → m ≡ numbers-in words → c ≡ course-in words → TickKeeps m c moved →
+pub unticked : (words : List ℕ) {m : Numbers} {c : Course} {moved : Moved} → m ≡ numbers-in words → c ≡ course-in words → TickKeeps m c moved → Packed words →
     Unticked words (moved .numbers) (moved .course)
-unticked words same-numbers same-course keeps =
+unticked words same-numbers same-course keeps its-packed =
     record {
       same-tasks = rw same-numbers at keeps .same-tasks;
       same-workers = rw same-numbers at keeps .same-workers;
       same-course = rw same-course at keeps .same-course;
+      packed = its-packed;
     }
 
 -- the words after a refused call, and after an accepted one
@@ -36,13 +38,13 @@ module _ (words : List ℕ) (moved : Moved) where
   kept-words refusal numbered =
       record { answered = numbered; stored = λ told. absurd (not-both (refusal .number) told (refusal .told)); kept = λ n told. refl }
 
-  pub stored-words : (words′ : List ℕ) → moved .answer ≡ Accepted → numbers-in words′ ≡ moved .numbers → course-in words′ ≡ moved .course →
+  pub stored-words : (words′ : List ℕ) → moved .answer ≡ Accepted → words′ ≡ words-of (moved .numbers) (moved .course) →
       Settled words moved words′ 0
-  stored-words words′ accepts numbers-stored course-stored =
+  stored-words words′ accepts its-words =
       let is-yes : answer-of (moved .answer) ≡ accepted = ap answer-of accepts in
       record {
         answered = ap answer-number (sym is-yes);
-        stored = λ told. (numbers-stored, course-stored);
+        stored = λ told. its-words;
         kept = λ n told. absurd (not-both n is-yes told);
       }
 
@@ -50,15 +52,19 @@ module _ (call : Call) (first second pending next ends words pending′ next′ 
     (same-numbers : m ≡ numbers-in words) (same-course : c ≡ course-in words)
     (moves : Moves call first second pending next ends m c pending′ next′ ends′ moved)
     (unmoved : (n : ℕ) → answer-of (moved .answer) ≡ refused n → Unchanged pending next ends m c pending′ next′ ends′ moved)
-    (settled : Settled words moved words′ r) where
+    (settled : Settled words moved words′ r) (fit : Fit (moved .numbers) (moved .course)) where
   -- the words have what the call left, also where it was refused
   numbers-left : (answer : Answer) → answer-of (moved .answer) ≡ answer → numbers-in words′ ≡ moved .numbers
-  numbers-left accepted told = settled .stored told .0
+  numbers-left accepted told = numbers-read _ (settled .stored told) fit
   numbers-left (refused n) told = ap numbers-in (settled .kept n told) ∙ sym (unmoved n told .same-numbers ∙ same-numbers)
 
   course-left : (answer : Answer) → answer-of (moved .answer) ≡ answer → course-in words′ ≡ moved .course
-  course-left accepted told = settled .stored told .1
+  course-left accepted told = course-read _ (settled .stored told) fit
   course-left (refused n) told = ap course-in (settled .kept n told) ∙ sym (unmoved n told .same-course ∙ same-course)
+
+  packed-left : Packed words → (answer : Answer) → answer-of (moved .answer) ≡ answer → Packed words′
+  packed-left its-packed accepted told = stored-packed _ (settled .stored told) fit
+  packed-left its-packed (refused n) told = subst Packed (sym (settled .kept n told)) its-packed
 
   state-left : state-in pending′ next′ ends′ words′ ≡ state-view pending′ next′ ends′ (moved .numbers) (moved .course)
   state-left =
@@ -73,10 +79,7 @@ module _ (call : Call) (first second pending next ends words pending′ next′ 
       record {
         answered = settled .answered ∙ ap answer-number (moves .answered) ∙ rw (same-numbers, same-course);
         stepped = state-left ∙ moves .stepped ∙ rw (same-numbers, same-course);
-        reached = λ plan calls h.
-            let after = moves .reached plan calls (rw (same-numbers, same-course) h) in
-            subst (λ (k : Course). Reached plan (calls ++ call ∷ []) first second pending′ next′ ends′ (numbers-in words′) k) (sym (course-left _ refl))
-            (subst (λ (k : Numbers). Reached plan (calls ++ call ∷ []) first second pending′ next′ ends′ k (moved .course)) (sym (numbers-left _ refl)) after);
+        reached = λ plan calls h. record { reached = left plan calls (h .reached); packed = packed-left (h .packed) _ refl };
         refusal = λ n no.
             let told = moves .answered ∙ before-answer ∙ no in
             let same = unmoved n told in
@@ -85,3 +88,15 @@ module _ (call : Call) (first second pending next ends words pending′ next′ 
     where
       before-answer : call-answer call (state-view pending next ends m c) ≡ call-answer call (state-in pending next ends words)
       before-answer = ap (call-answer call) before
+
+      left : (plan : Plan) (calls : List Call) → Reached plan calls first second pending next ends (numbers-in words) (course-in words) →
+          Reached plan (calls ++ call ∷ []) first second pending′ next′ ends′ (numbers-in words′) (course-in words′)
+      left plan calls h =
+          let after = moves .reached plan calls (rw (same-numbers, same-course) h) in
+          subst
+          (λ (k : Course). Reached plan (calls ++ call ∷ []) first second pending′ next′ ends′ (numbers-in words′) k)
+          (sym (course-left _ refl))
+          (subst
+          (λ (k : Numbers). Reached plan (calls ++ call ∷ []) first second pending′ next′ ends′ k (moved .course))
+          (sym (numbers-left _ refl))
+          after)

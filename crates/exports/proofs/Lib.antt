@@ -1,7 +1,5 @@
--- Calling: a call in lent memory. Granting: a grant of any number. Accepting, Showing: the other functions. Demands: demands 2 and 3 over the
--- memory.
+-- Calling: a call in lent memory. Granting: a grant of any number. Accepting, Showing: the other functions.
 pub mod Calling
 pub mod Granting
 pub mod Accepting
 pub mod Showing
-pub mod Demands

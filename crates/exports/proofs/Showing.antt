@@ -3,12 +3,11 @@
 use mathlib.Core.Path.{_≡_, refl, sym, ap, _∙_}
 use mathlib.Core.List.{List}
 use Prim.Native.Nat.{ℕ}
-use lib.ListN.{length}
+use lib.ListN.{length, replicate}
 use Rattle.model.specs.Questions.{answer-number, by-answer}
 use Rattle.model.specs.Plan.{Plan}
-use Rattle.model.specs.Machine.{State}
 use Rattle.model.specs.Label.{Stretch, label, label-answer}
-use Rattle.model.specs.Counters.{spaced, counters, counters-line, counters-answer, put-at-start}
+use Rattle.model.specs.Counters.{spaced, counters-answer, put-at-start}
 use Rattle.status.specs.declared.Status.{Status}
 use Rattle.status.specs.Number.{status-number}
 use Rattle.label.specs.declared.Found.{Found}
@@ -19,24 +18,32 @@ use Rattle.counters.specs.Line.{numbers-of, line-answer, line-length}
 use Rattle.counters.proofs.Line.{model-buffer}
 use Rattle.deque.specs.declared.Numbers.{Numbers}
 use Rattle.engine.specs.declared.Course.{Course}
-use Rattle.job.specs.Status.{StatusOf}
+use Rattle.job.specs.View.{JobNumbers}
+use Rattle.job.specs.Status.{shown-status, StatusOf}
+use Rattle.job.proofs.Statuses.{none-shown}
 use Rattle.report.specs.Shown.{CountersOf}
-use Rattle.memory.specs.Held.{numbers-in, course-in, state-in}
+use Rattle.report.proofs.Counted.{same-size}
+use Rattle.memory.proofs.Reading.{held-alone}
+use Rattle.memory.specs.Held.{numbers-in, course-in, state-in, HeldWords}
 use Rattle.exports.specs.Promises.{ShowsStatus, ShowsCounters, ShowsLine, ShowsWording}
 
 module _ (words : List ℕ) {m : Numbers} {c : Course} (same-numbers : m ≡ numbers-in words) (same-course : c ≡ course-in words) where
+  -- the numbers that were read are a job's
+  pub held-job : HeldWords words → JobNumbers m c
+  held-job held = held-alone words same-numbers same-course held
+
   pub status-shown : {shown : Status} {r : ℕ} → StatusOf m c shown → r ≡ status-number shown → ShowsStatus words r
   status-shown of numbered =
       record {
         right = λ plan calls first second pending next ends h.
-            numbered ∙ of .right plan calls first second pending next ends (rw (same-numbers, same-course) h) ∙ rw (same-numbers, same-course);
+            numbered ∙ of .right plan calls first second pending next ends (rw (same-numbers, same-course) (h .reached)) ∙ rw (same-numbers, same-course);
       }
 
   pub counters-shown : {refusals : ℕ} {k : Counters} → CountersOf m c refusals k → ShowsCounters words refusals (numbers-of k)
   counters-shown of =
       record {
         right = λ plan calls first second pending next ends h.
-            of .right plan calls first second pending next ends (rw (same-numbers, same-course) h) ∙ rw (same-numbers, same-course);
+            of .right plan calls first second pending next ends (rw (same-numbers, same-course) (h .reached)) ∙ rw (same-numbers, same-course);
       }
 
 -- what looking for the status's line found
@@ -58,12 +65,6 @@ module _ (words : List ℕ) (refusals : ℕ) (k : Counters) (shown : ShowsCounte
   numbers-shown same =
       record { right = λ plan calls first second pending next ends h. same ∙ shown .right plan calls first second pending next ends h }
 
-  -- the size of the line of ten numbers that are a job's
-  same-size : (buffer : List ℕ) (plan : Plan) (s : State) → numbers-of k ≡ counters plan s refusals →
-      by-answer (counters-answer buffer) (length (spaced (numbers-of k))) 0 ≡ by-answer (counters-answer buffer) (length (counters-line plan s refusals)) 0
-  unfolding counters-line
-  same-size buffer plan s e = ap (λ (ns : List ℕ). by-answer (counters-answer buffer) (length (spaced ns)) 0) e
-
   -- what writing the line answered
   pub line-shown : (buffer buffer′ : List ℕ) (answer : LineAnswer) → line-answer answer ≡ counters-answer buffer →
       line-length answer ≡ by-answer (counters-answer buffer) (length (spaced (numbers-of k))) 0 →
@@ -74,7 +75,13 @@ module _ (words : List ℕ) (refusals : ℕ) (k : Counters) (shown : ShowsCounte
         answered = ap answer-number answered;
         right = λ plan calls first second pending next ends h.
             let same = shown .right plan calls first second pending next ends h in (
-              sized ∙ same-size buffer plan (state-in pending next ends words) same,
+              sized ∙ same-size (numbers-of k) buffer plan (state-in pending next ends words) refusals same,
               written ∙ model-buffer plan (state-in pending next ends words) refusals (numbers-of k) buffer same,
             );
       }
+
+-- ---- memory that holds no job
+
+-- memory of zeros, as it stands after a refused plan, shows 0 and not 3
+pub zeros-shown : shown-status (numbers-in (replicate 18 0)) (course-in (replicate 18 0)) ≡ 0
+zeros-shown = sym (none-shown (numbers-in (replicate 18 0)) (course-in (replicate 18 0)) refl)

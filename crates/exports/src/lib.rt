@@ -4,7 +4,7 @@ ghost use mathlib.Core.Path.{_≡_};
 ghost use Rattle.model.specs.Machine.{ticks};
 ghost use Rattle.counters.specs.Line.{numbers-of};
 ghost use Rattle.memory.specs.Held.{Held, HeldWith, HeldWords, Unticked};
-ghost use Rattle.exports.specs.Steps.{least-of-65, Settled};
+ghost use Rattle.exports.specs.Steps.{Settled};
 ghost use Rattle.exports.specs.Promises.{Accepts, Calls, Grants, ShowsStatus, ShowsCounters, ShowsLine, ShowsWording};
 use counters::Counters;
 use counters::LineAnswer;
@@ -41,16 +41,6 @@ fn settle_tick(words: &mut [u64; 18], moved: Moved) -> u8
     0
 }
 
-// A number of workers as the core takes it. No job wants more than 64, so all above are refused alike.
-fn at_most_65(workers: u64) -> u8
-    ensures { λ r. ⌜ r ≡ least-of-65 workers ⌝ }
-{
-    if workers < 65 {
-        return workers as u8;
-    }
-    65
-}
-
 // A plan of any bytes: the memory becomes its fresh job. Refused, the memory stays as it came.
 #[no_mangle]
 pub extern "C" fn jirvaldo_core_accept(
@@ -64,17 +54,11 @@ pub extern "C" fn jirvaldo_core_accept(
 ) -> u8
     ensures { λ r. ⌜ Accepts (now (plan .entry)) (now (first .entry)) (now (second .entry)) (now (pending .entry)) (now (next .entry)) (now (ends .entry)) (now (words .entry)) (now (first .exit)) (now (second .exit)) (now (pending .exit)) (now (next .exit)) (now (ends .exit)) (now (words .exit)) r ⌝ }
 {
-    let mut its_first = [0u16; 1024];
-    let mut its_second = [0u16; 1024];
-    let mut its_pending = [0u8; 1024];
-    let heading = plan::read_into(plan, &mut its_first, &mut its_second, &mut its_pending);
+    let heading = plan::read_into(plan, first, second, pending);
     let answer = heading.answer;
     if !plan::passed(answer) {
         return plan::number(answer);
     }
-    *first = its_first;
-    *second = its_second;
-    *pending = its_pending;
     *next = [0u16; 1024];
     *ends = [0u16; 256];
     let numbers = job::no_numbers(heading.tasks);
@@ -99,7 +83,7 @@ pub extern "C" fn jirvaldo_core_grant(
 {
     let m = memory::numbers_in(words);
     let c = memory::course_in(words);
-    let moved = engine::grant(ends, m, c, at_most_65(workers));
+    let moved = engine::grant(ends, m, c, workers);
     settle_grant(words, moved)
 }
 
@@ -125,6 +109,7 @@ pub extern "C" fn jirvaldo_core_tick(
 
 // The status that the words show.
 fn status_in(words: &[u64; 18]) -> u8
+    requires { ⌜ HeldWords (now words) ⌝ }
     ensures { λ r. ⌜ ShowsStatus (now (words .entry)) r ⌝ }
 {
     let shown = job::status_of(memory::numbers_in(words), memory::course_in(words));
@@ -133,6 +118,7 @@ fn status_in(words: &[u64; 18]) -> u8
 
 // The ten numbers of the counters line that the words show.
 fn counters_in(words: &[u64; 18], refusals: u64) -> Counters
+    requires { ⌜ HeldWords (now words) ⌝ }
     ensures { λ r. ⌜ ShowsCounters (now (words .entry)) refusals (numbers-of r) ⌝ }
 {
     report::counters_of(

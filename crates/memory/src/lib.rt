@@ -1,10 +1,10 @@
 // The numbers of a job in memory that the caller lends: `words`, beside the arrays of the in-place core. What is stored is read back.
 ghost use mathlib.Core.Path.{_≡_};
-ghost use Rattle.memory.specs.Held.{numbers-in, course-in, Unticked};
-use deque::MugCycles;
+ghost use Rattle.memory.specs.Held.{numbers-in, course-in, words-of, Unticked};
+use cycle_counts::MugCycles;
+use cycle_counts::StealCycles;
+use cycle_counts::WorkCycles;
 use deque::Numbers;
-use deque::StealCycles;
-use deque::WorkCycles;
 use engine::Course;
 
 // The job's numbers, from its words.
@@ -15,9 +15,9 @@ pub fn numbers_in(words: &[u64; 18]) -> Numbers
         tasks: (words[0] % 65536) as u16,
         workers: (words[1] % 256) as u8,
         done: (words[2] % 65536) as u16,
-        works: WorkCycles(words[3]),
-        mugs: MugCycles(words[4]),
-        steals: StealCycles(words[5]),
+        works: WorkCycles::kept(words),
+        mugs: MugCycles::kept(words),
+        steals: StealCycles::kept(words),
         successes: words[6],
         usage: words[7],
         head: words[8] as usize,
@@ -43,16 +43,21 @@ pub fn course_in(words: &[u64; 18]) -> Course
 
 // The job's numbers become its words.
 pub fn store(words: &mut [u64; 18], m: Numbers, c: Course)
-    ensures numbers { λ _. ⌜ numbers-in (now (words .exit)) ≡ m ⌝ }
-    ensures course { λ _. ⌜ course-in (now (words .exit)) ≡ c ⌝ }
+    ensures { λ _. ⌜ now (words .exit) ≡ words-of m c ⌝ }
 {
+    let works = m.works;
+    let mugs = m.mugs;
+    let steals = m.steals;
+    let worked = works.number();
+    let mugged = mugs.number();
+    let stolen = steals.number();
     *words = [
         m.tasks as u64,
         m.workers as u64,
         m.done as u64,
-        m.works.0,
-        m.mugs.0,
-        m.steals.0,
+        worked,
+        mugged,
+        stolen,
         m.successes,
         m.usage,
         m.head as u64,
@@ -71,16 +76,21 @@ pub fn store(words: &mut [u64; 18], m: Numbers, c: Course)
 // The same after a tick: the words of what no tick changes stay as they are.
 pub fn store_ticked(words: &mut [u64; 18], m: Numbers, c: Course)
     requires { ⌜ Unticked (now words) m c ⌝ }
-    ensures numbers { λ _. ⌜ numbers-in (now (words .exit)) ≡ m ⌝ }
-    ensures course { λ _. ⌜ course-in (now (words .exit)) ≡ c ⌝ }
+    ensures { λ _. ⌜ now (words .exit) ≡ words-of m c ⌝ }
 {
+    let works = m.works;
+    let mugs = m.mugs;
+    let steals = m.steals;
+    let worked = works.number();
+    let mugged = mugs.number();
+    let stolen = steals.number();
     *words = [
         words[0],
         words[1],
         m.done as u64,
-        m.works.0,
-        m.mugs.0,
-        m.steals.0,
+        worked,
+        mugged,
+        stolen,
         m.successes,
         m.usage,
         m.head as u64,

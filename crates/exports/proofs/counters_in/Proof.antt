@@ -1,7 +1,7 @@
 -- `exports::counters_in` meets its contract: the ten numbers of the record are those of the memory.
 -- Assumes nothing.
 use borrow.Author.Needs.{needs}
-use Rattle.exports.proofs.Showing.{counters-shown}
+use Rattle.exports.proofs.Showing.{held-job, counters-shown}
 use Rattle.exports.proofs.counters_in.Statement.{statement}
 use Rattle.exports.proofs.counters_in.Tie as tie
 
@@ -12,7 +12,8 @@ course-in-requires : tie.Need-course-in-requires
 course-in-requires c κs = search needs
 
 counters-of-requires : tie.Need-counters-of-requires
-counters-of-requires c κs = search needs
+counters-of-requires c κs =
+    held-job (c .before .before .args .words .now) (c .before .numbers-in .ensures) (c .course-in .ensures) (c .before .before .pre)
 
 returns : tie.Need-returns
 returns c = counters-shown _ (c .before .before .numbers-in .ensures) (c .before .course-in .ensures) (c .counters-of .ensures)

@@ -1,8 +1,10 @@
--- `exports::jirvaldo_core_grant` meets its contract: what the in-place core promises of the least of the number and 65.
+-- `exports::jirvaldo_core_grant` meets its contract: what the in-place core promises of the grant.
 -- Assumes nothing.
 use borrow.Author.Needs.{needs}
-use Rattle.exports.proofs.Calling.{called}
-use Rattle.exports.proofs.Granting.{grantable, granted}
+use native.Mathlib.Omega.{arith}
+use Rattle.memory.proofs.Words.{Fit}
+use Rattle.memory.proofs.Reading.{held-with-ends}
+use Rattle.exports.proofs.Granting.{granted}
 use Rattle.exports.proofs.jirvaldo_core_grant.Statement.{statement}
 use Rattle.exports.proofs.jirvaldo_core_grant.Tie as tie
 
@@ -12,23 +14,25 @@ numbers-in-requires c κs = search needs
 course-in-requires : tie.Need-course-in-requires
 course-in-requires c κs = search needs
 
-at-most-65-requires : tie.Need-at-most-65-requires
-at-most-65-requires c κs = search needs
-
 grant-requires : tie.Need-grant-requires
 grant-requires c κs =
-    let read = c .before .before in
+    let read = c .before in
     let s = read .before .before .before .before in
-    grantable (s .args .words .now) (read .before .before .numbers-in .ensures) (read .course-in .ensures) (s .pre)
+    held-with-ends (s .args .words .now) (read .before .before .numbers-in .ensures) (read .course-in .ensures) (s .pre)
 
 settle-grant-requires : tie.Need-settle-grant-requires
 settle-grant-requires c κs = search needs
 
+-- what the call left fits its types
+left-fit : (c : tie.After-grant) → Fit (c .grant .result .numbers) (c .grant .result .course)
+left-fit c = record { numbers = omega (arith, c .grant .ok); course = omega (arith, c .grant .ok) }
+
 returns : tie.Need-returns
 returns c =
     let moved = c .before .before in
-    let read = moved .before .before .before in
-    granted _ _ _ _ (read .before .before .numbers-in .ensures) (read .course-in .ensures) (moved .before .at-most-65 .ensures) (moved .grant .ensures) (c .settle-grant .ensures)
+    let read = moved .before .before in
+    granted _ _ _ (read .before .before .numbers-in .ensures) (read .course-in .ensures)
+    (moved .grant .ensures) (c .settle-grant .ensures) (left-fit moved)
 
 pub jirvaldo-core-grant-spec : {M : Type 1} → statement M
 jirvaldo-core-grant-spec =
@@ -36,7 +40,6 @@ jirvaldo-core-grant-spec =
     (tie.spec
     numbers-in-requires
     course-in-requires
-    at-most-65-requires
     grant-requires
     settle-grant-requires
     returns)

@@ -1,6 +1,8 @@
 -- `exports::jirvaldo_core_tick` meets its contract: what the in-place core promises, said of the memory.
 -- Assumes nothing.
 use borrow.Author.Needs.{needs}
+use native.Mathlib.Omega.{arith}
+use Rattle.memory.proofs.Words.{Fit}
 use Rattle.memory.proofs.Reading.{held-numbers}
 use Rattle.exports.proofs.Calling.{unticked, called}
 use Rattle.exports.proofs.jirvaldo_core_tick.Statement.{statement}
@@ -22,13 +24,19 @@ settle-tick-requires : tie.Need-settle-tick-requires
 settle-tick-requires c κs =
     let moved = c .before in
     let read = moved .before .before .before .before in
-    unticked _ (read .before .before .numbers-in .ensures) (read .course-in .ensures) (moved .tick .ensures .keeps)
+    let s = read .before .before .before .before .before in
+    unticked _ (read .before .before .numbers-in .ensures) (read .course-in .ensures) (moved .tick .ensures .keeps) (s .pre .2 .packed)
+
+-- what the call left fits its types
+left-fit : (c : tie.After-tick) → Fit (c .tick .result .numbers) (c .tick .result .course)
+left-fit c = record { numbers = omega (arith, c .tick .ok); course = omega (arith, c .tick .ok) }
 
 returns : tie.Need-returns
 returns c =
     let moved = c .before .before in
     let read = moved .before .before .before .before in
-    called _ _ _ _ _ _ _ _ _ _ _ (read .before .before .numbers-in .ensures) (read .course-in .ensures) (moved .tick .ensures .moves) (moved .tick .ensures .refusal) (c .settle-tick .ensures)
+    called _ _ _ _ _ _ _ _ _ _ _ (read .before .before .numbers-in .ensures) (read .course-in .ensures)
+    (moved .tick .ensures .moves) (moved .tick .ensures .refusal) (c .settle-tick .ensures) (left-fit moved)
 
 pub jirvaldo-core-tick-spec : {M : Type 1} → statement M
 jirvaldo-core-tick-spec =

@@ -19,7 +19,7 @@ store-requires : tie.Need-store-requires
 store-requires c κs = search needs
 
 returns-2 : tie.Need-returns-2
-returns-2 c = stored-words _ _ _ (c .before .before .before .before .enum-told .given .1) (c .store .ensures .0) (c .store .ensures .1)
+returns-2 c = stored-words _ _ _ (c .before .before .before .before .enum-told .given .1) (c .store .ensures)
 
 pub settle-grant-spec : {M : Type 1} → statement M
 settle-grant-spec = tie.close (tie.spec enum-told number-requires returns store-requires returns-2)

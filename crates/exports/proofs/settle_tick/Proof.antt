@@ -19,7 +19,7 @@ store-ticked-requires : tie.Need-store-ticked-requires
 store-ticked-requires c κs = c .before .before .before .before .before .pre
 
 returns-2 : tie.Need-returns-2
-returns-2 c = stored-words _ _ _ (c .before .before .before .before .enum-told .given .1) (c .store-ticked .ensures .0) (c .store-ticked .ensures .1)
+returns-2 c = stored-words _ _ _ (c .before .before .before .before .enum-told .given .1) (c .store-ticked .ensures)
 
 pub settle-tick-spec : {M : Type 1} → statement M
 settle-tick-spec = tie.close (tie.spec enum-told number-requires returns store-ticked-requires returns-2)

@@ -1,7 +1,7 @@
 -- `exports::status_in` meets its contract: the status of the numbers is that of the memory.
 -- Assumes nothing.
 use borrow.Author.Needs.{needs}
-use Rattle.exports.proofs.Showing.{status-shown}
+use Rattle.exports.proofs.Showing.{held-job, status-shown}
 use Rattle.exports.proofs.status_in.Statement.{statement}
 use Rattle.exports.proofs.status_in.Tie as tie
 
@@ -12,7 +12,8 @@ course-in-requires : tie.Need-course-in-requires
 course-in-requires c κs = search needs
 
 status-of-requires : tie.Need-status-of-requires
-status-of-requires c κs = search needs
+status-of-requires c κs =
+    held-job (c .before .before .args .words .now) (c .before .numbers-in .ensures) (c .course-in .ensures) (c .before .before .pre)
 
 number-of-requires : tie.Need-number-of-requires
 number-of-requires c κs = search needs

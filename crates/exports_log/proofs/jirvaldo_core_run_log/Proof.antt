@@ -1,6 +1,8 @@
 -- `exports_log::jirvaldo_core_run_log` meets its contract: what the run in place promises, said of the memory.
 -- Assumes nothing.
 use borrow.Author.Needs.{needs}
+use native.Mathlib.Omega.{arith}
+use Rattle.memory.proofs.Words.{Fit}
 use Rattle.memory.proofs.Reading.{held-numbers}
 use Rattle.exports_log.proofs.Running.{ran-log}
 use Rattle.exports_log.proofs.jirvaldo_core_run_log.Statement.{statement}
@@ -24,11 +26,17 @@ store-requires c κs = search needs
 log-number-requires : tie.Need-log-number-requires
 log-number-requires c κs = search needs
 
+-- what the run left fits its types
+left-fit : (c : tie.After-run) → Fit (c .run .result .numbers) (c .run .result .course)
+left-fit c = record { numbers = omega (arith, c .run .ok); course = omega (arith, c .run .ok) }
+
 returns : tie.Need-returns
 returns c =
     let ran = c .before .before .before .before .before in
     let read = ran .before .before .before .before in
-    ran-log _ _ (read .before .before .numbers-in .ensures) (read .course-in .ensures) (ran .run .ensures) (c .before .store .ensures .0) (c .before .store .ensures .1) (c .log-number .ensures)
+    let s = read .before .before .before .before .before in
+    ran-log _ _ (read .before .before .numbers-in .ensures) (read .course-in .ensures) (ran .run .ensures)
+    (s .pre .2 .packed) (c .before .store .ensures) (left-fit ran) (c .log-number .ensures)
 
 pub jirvaldo-core-run-log-spec : {M : Type 1} → statement M
 jirvaldo-core-run-log-spec =
