@@ -131,6 +131,7 @@ impl Job {
     /// the number of choices in the low 7 bits, then one byte a choice). A refused call is counted, and the next entry follows.
     ///
     /// The run's `end` is `Err(Refusal::BrokenEntry)` (18) where the log ends inside an entry: nothing of that entry is done or counted.
+    /// A log that moves nothing (empty, cut off in its first entry, or all its calls refused) leaves the job byte for byte as it was.
     ///
     /// ```
     /// use jirvaldo::{Job, Refusal};
