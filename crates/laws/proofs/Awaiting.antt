@@ -1,5 +1,5 @@
--- How many predecessors a task still awaits: none exactly when it is ready; one less for each successor of a task that is worked, and no change
--- elsewhere; all of them at the beginning, and so at most two.
+-- How many predecessors a task still awaits: none exactly when it is ready; one less for each successor of a task that is worked, and no
+-- change elsewhere; all of them at the beginning, and so at most two.
 -- Assumes nothing.
 use mathlib.Core.Path.{_≡_, refl, sym, ap, _∙_}
 use mathlib.Core.Bool.{Bool, true, false, cond, not, _&&_}
@@ -12,12 +12,13 @@ use lib.ListN.{length, getD, set, replicate}
 use lib.Seq.{getD-set-same, getD-set-other}
 use borrow.Author.Tests.{eqb-true, eqb-false, ne-eqb}
 use Rattle.model.specs.Tests.{below, every, keep, member}
-use Rattle.model.specs.Plan.{Plan, tasks, successors-of, predecessors}
+use Rattle.model.specs.Plan.{Graph, tasks, successors-of, predecessors}
 use Rattle.model.specs.Machine.{ready, completed}
-use Rattle.model.specs.Statements.{SoundPlan}
+use Rattle.model.specs.Statements.{SoundGraph}
 use Rattle.laws.specs.Invariants.{occurrences}
 use Rattle.laws.specs.Awaited.{still-awaited}
-use Rattle.laws.proofs.Lists.{occurrences-append, occurrences-keep, none-set}
+use Rattle.lists.proofs.Lists.{none-set}
+use Rattle.laws.proofs.Deques.{occurrences-append, occurrences-keep}
 
 -- ---- lists
 
@@ -48,7 +49,8 @@ one-fails t test fewer yes-t no-t others (x ∷ xs) = go (eqb t x) refl (one-fai
     either false h = omega arith
 
     go : (b : Bool) → eqb t x ≡ b → length (keep test xs) ≡ length (keep fewer xs) + occurrences t xs →
-        length (cond (test x) (x ∷ keep test xs) (keep test xs)) ≡ length (cond (fewer x) (x ∷ keep fewer xs) (keep fewer xs)) + (cond b 1 0 + occurrences t xs)
+        length (cond (test x) (x ∷ keep test xs) (keep test xs))
+        ≡ length (cond (fewer x) (x ∷ keep fewer xs) (keep fewer xs)) + (cond b 1 0 + occurrences t xs)
     go true e h = rw (← eqb-true t x e, yes-t, no-t) (omega arith)
     go false e h = rw (others x (λ q. eqb-false t x e (sym q))) (either (test x) h)
 
@@ -84,41 +86,44 @@ kept-at-most (x ∷ xs) test = go (test x) (kept-at-most xs test)
 
 -- ---- tasks
 
-module _ (plan : Plan) where
-  pub awaits-none : (worked : List Bool) (t : ℕ) → eqb (still-awaited plan worked t) 0 ≡ ready plan worked t
+module _ (graph : Graph) where
+  pub awaits-none : (worked : List Bool) (t : ℕ) → eqb (still-awaited graph worked t) 0 ≡ ready graph worked t
   unfolding ready
-  awaits-none worked t = none-fails (λ p. getD worked p false) (predecessors plan t)
+  awaits-none worked t = none-fails (λ p. getD worked p false) (predecessors graph t)
 
-  pub awaited-at-first : (t : ℕ) → still-awaited plan (replicate (tasks plan) false) t ≡ length (predecessors plan t)
+  pub awaited-at-first : (t : ℕ) → still-awaited graph (replicate (tasks graph) false) t ≡ length (predecessors graph t)
   awaited-at-first t =
-      all-kept (predecessors plan t) (λ p. not (getD (replicate (tasks plan) false) p false)) (λ p. rw (none-set (tasks plan) p) refl)
+      all-kept (predecessors graph t) (λ p. not (getD (replicate (tasks graph) false) p false)) (λ p. rw (none-set (tasks graph) p) refl)
 
   -- a task is before another once, or not at all
-  before-times : (t x : ℕ) → t < tasks plan → occurrences t (predecessors plan x) ≡ cond (member x (successors-of plan t)) 1 0
+  before-times : (t x : ℕ) → t < tasks graph → occurrences t (predecessors graph x) ≡ cond (member x (successors-of graph t)) 1 0
   unfolding predecessors
   before-times t x l =
-      occurrences-keep (λ p. member x (successors-of plan p)) t (below (tasks plan))
-      ∙ ap (λ (n : ℕ). cond (member x (successors-of plan t)) n 0) (occurrences-below t (tasks plan) l)
+      occurrences-keep (λ p. member x (successors-of graph p)) t (below (tasks graph))
+      ∙ ap (λ (n : ℕ). cond (member x (successors-of graph t)) n 0) (occurrences-below t (tasks graph) l)
 
-  module _ (worked : List Bool) (t : ℕ) (l : t < tasks plan) (flags : length worked ≡ tasks plan) (u : getD worked t false ≡ false) where
+  module _ (worked : List Bool) (t : ℕ) (l : t < tasks graph) (flags : length worked ≡ tasks graph) (u : getD worked t false ≡ false) where
     awaited-change : (x : ℕ) →
-        still-awaited plan worked x ≡ still-awaited plan (completed t worked) x + cond (member x (successors-of plan t)) 1 0
+        still-awaited graph worked x ≡ still-awaited graph (completed t worked) x + cond (member x (successors-of graph t)) 1 0
     awaited-change x =
         one-fails t (λ p. not (getD worked p false)) (λ p. not (getD (set worked t true) p false))
         (rw u refl)
         (rw (getD-set-same worked t true false (omega arith)) refl)
         (λ p ne. rw (getD-set-other worked t p true false ne) refl)
-        (predecessors plan x)
-        ∙ ap (λ (n : ℕ). still-awaited plan (completed t worked) x + n) (before-times t x l)
+        (predecessors graph x)
+        ∙ ap (λ (n : ℕ). still-awaited graph (completed t worked) x + n) (before-times t x l)
 
     -- working a task: one less for each of its successors
-    pub successor-awaits : (x : ℕ) → member x (successors-of plan t) ≡ true → still-awaited plan worked x ≡ suc (still-awaited plan (completed t worked) x)
+    pub successor-awaits : (x : ℕ) → member x (successors-of graph t) ≡ true →
+        still-awaited graph worked x ≡ suc (still-awaited graph (completed t worked) x)
     successor-awaits x m = let c = awaited-change x in omega (arith, rw m at c)
 
     -- and no change for any other task
-    pub other-awaits : (x : ℕ) → member x (successors-of plan t) ≡ false → still-awaited plan (completed t worked) x ≡ still-awaited plan worked x
+    pub other-awaits : (x : ℕ) → member x (successors-of graph t) ≡ false →
+        still-awaited graph (completed t worked) x ≡ still-awaited graph worked x
     other-awaits x m = let c = awaited-change x in omega (arith, rw m at c)
 
-pub awaits-at-most : {plan : Plan} → SoundPlan plan → (worked : List Bool) (t : ℕ) → 1 ≤ t → t < tasks plan → still-awaited plan worked t ≤ 2
-awaits-at-most {plan} sound worked t h l =
-    omega (arith, kept-at-most (predecessors plan t) (λ p. not (getD worked p false)), sound .preceded-twice t h l)
+pub awaits-at-most : {graph : Graph} → SoundGraph graph → (worked : List Bool) (t : ℕ) → 1 ≤ t → t < tasks graph →
+    still-awaited graph worked t ≤ 2
+awaits-at-most {graph} sound worked t h l =
+    omega (arith, kept-at-most (predecessors graph t) (λ p. not (getD worked p false)), sound .preceded-twice t h l)

@@ -10,10 +10,11 @@ use native.Mathlib.Omega.{arith}
 use lib.Dec.{eqb}
 use lib.ListN.{length, getD, set, length-set, length-append}
 use borrow.Author.Tests.{eqb-false}
-use Rattle.model.specs.Plan.{Plan, tasks}
-use Rattle.model.specs.Machine.{Execution, deque-of, completed, released, left-by-steal, taken-by-steal, work-cycle, mug-cycle, successful-steal, failed-steal, cycle, cycles}
+use Rattle.model.specs.Plan.{Graph, tasks}
+use Rattle.model.specs.Machine.{Execution, deque-of, completed, released, left-by-steal, taken-by-steal, work-cycle, mug-cycle}
+use Rattle.model.specs.Machine.{successful-steal, failed-steal, cycle, cycles}
 use Rattle.laws.specs.Invariants.{occurrences, in-deques, Placed, Bounded}
-use Rattle.laws.proofs.Lists.{one-if-filled, one-at-most, busy-set, busy-at-most, occurrences-append, occurs}
+use Rattle.laws.proofs.Deques.{one-if-filled, one-at-most, busy-set, busy-at-most, occurrences-append, occurs}
 use Rattle.laws.proofs.Cycles.{cycle-cases, cycles-keep}
 use Rattle.laws.proofs.Placement.{stands, standing-once}
 
@@ -22,15 +23,15 @@ use Rattle.laws.proofs.Placement.{stands, standing-once}
 pub bounded-more : {most more : ℕ} {e : Execution} → most ≤ more → Bounded most e → Bounded more e
 bounded-more {most} {more} {e} h b = record { workers = omega arith; lines = omega arith }
 
-pub cycle-bounded : {most : ℕ} {e : Execution} → (plan : Plan) → Bounded most e → (w choice : ℕ) → w < length (e .deques) →
-    Bounded most (cycle plan w choice e)
+pub cycle-bounded : {most : ℕ} {e : Execution} → (graph : Graph) → Bounded most e → (w choice : ℕ) → w < length (e .deques) →
+    Bounded most (cycle graph w choice e)
 unfolding work-cycle mug-cycle successful-steal failed-steal
-cycle-bounded {most} {e} plan b w choice here =
-    cycle-cases plan w choice e
+cycle-bounded {most} {e} graph b w choice here =
+    cycle-cases graph w choice e
     (λ c after. Bounded most after)
     (record {
       working = λ t rest own.
-          let new : List ℕ = released plan (completed t (e .worked)) t ++ tail (deque-of e w) in
+          let new : List ℕ = released graph (completed t (e .worked)) t ++ tail (deque-of e w) in
           let left : one-if-filled (deque-of e w) ≡ 1 = ap one-if-filled own in
           record {
             workers = omega (arith, length-set (e .deques) w new, b .workers);
@@ -55,9 +56,10 @@ cycle-bounded {most} {e} plan b w choice here =
       failing = λ own none few. record { workers = b .workers; lines = b .lines };
     })
 
-pub cycles-bounded : {most : ℕ} {e : Execution} → (plan : Plan) → Bounded most e → (w : ℕ) (choices : List ℕ) →
-    w + length choices ≤ length (e .deques) → Bounded most (cycles plan w choices e)
-cycles-bounded {most} {e} plan b w choices h = cycles-keep plan (Bounded most) (λ v c before l f q. cycle-bounded plan q v c l) choices w e h b
+pub cycles-bounded : {most : ℕ} {e : Execution} → (graph : Graph) → Bounded most e → (w : ℕ) (choices : List ℕ) →
+    w + length choices ≤ length (e .deques) → Bounded most (cycles graph w choices e)
+cycles-bounded {most} {e} graph b w choices h =
+    cycles-keep graph (Bounded most) (λ v c before l f q. cycle-bounded graph q v c l) choices w e h b
 
 -- ---- tasks
 
@@ -82,7 +84,8 @@ unfolding sum-below
 sum-of-one zero x h = absurd (not-suc-le-zero h)
 sum-of-one (suc n) x h = go (eqb n x) refl (sum-of-one n x)
   where
-    go : (b : Bool) → eqb n x ≡ b → (x < n → 1 ≤ sum-below n (λ t. cond (eqb t x) 1 0)) → 1 ≤ sum-below n (λ t. cond (eqb t x) 1 0) + cond b 1 0
+    go : (b : Bool) → eqb n x ≡ b → (x < n → 1 ≤ sum-below n (λ t. cond (eqb t x) 1 0)) →
+        1 ≤ sum-below n (λ t. cond (eqb t x) 1 0) + cond b 1 0
     go true e onward = omega arith
     go false e onward = let ne = eqb-false n x e in omega (arith, onward (omega arith))
 
@@ -114,16 +117,16 @@ deque-within [] w = omega arith
 deque-within (d ∷ ds) zero = omega (arith, length-append d (tasks-of ds))
 deque-within (d ∷ ds) (suc w) = omega (arith, length-append d (tasks-of ds), deque-within ds w)
 
-module _ {plan : Plan} {e : Execution} (placed : Placed plan e) where
+module _ {graph : Graph} {e : Execution} (placed : Placed graph e) where
   -- all deques together hold at most N tasks
-  pub tasks-standing : length (tasks-of (e .deques)) + length (tasks-of (e .muggable)) ≤ tasks plan
+  pub tasks-standing : length (tasks-of (e .deques)) + length (tasks-of (e .muggable)) ≤ tasks graph
   tasks-standing =
       let all : List ℕ = tasks-of (e .deques) ++ tasks-of (e .muggable) in
       omega (
         arith,
         length-append (tasks-of (e .deques)) (tasks-of (e .muggable)),
-        counted (tasks plan) all (λ x m. stands placed x (omega (arith, times x, occurs x all m)) .of-plan),
-        sum-of-ones (tasks plan) (λ t. occurrences t all) (λ t. omega (arith, times t, standing-once placed t)),
+        counted (tasks graph) all (λ x m. stands placed x (omega (arith, times x, occurs x all m)) .of-plan),
+        sum-of-ones (tasks graph) (λ t. occurrences t all) (λ t. omega (arith, times t, standing-once placed t)),
       )
     where
       times : (t : ℕ) → occurrences t (tasks-of (e .deques) ++ tasks-of (e .muggable)) ≡ in-deques t (e .deques) + in-deques t (e .muggable)
@@ -135,8 +138,5 @@ module _ {plan : Plan} {e : Execution} (placed : Placed plan e) where
             occurrences-tasks-of t (e .muggable),
           )
 
-  pub worker-length : (w : ℕ) → length (deque-of e w) ≤ tasks plan
+  pub worker-length : (w : ℕ) → length (deque-of e w) ≤ tasks graph
   worker-length w = omega (arith, deque-within (e .deques) w, tasks-standing)
-
-  pub muggable-length : (i : ℕ) → length (getD (e .muggable) i []) ≤ tasks plan
-  muggable-length i = omega (arith, deque-within (e .muggable) i, tasks-standing)

@@ -1,103 +1,103 @@
--- What one induction over the list of calls carries for demand 3: the open quantum agrees with the state, the desire is a power of the
--- responsiveness, the stack of unused quanta has one for each power below it, and the balance of the mugs holds at that power. The open
+-- What one induction over the list of calls carries for demand 3: the open quantum agrees with the state, the desire is a count of the
+-- ladder, the stack of unused quanta has one for each power below it, and the balance of the mugs holds at that power. The open
 -- quantum's agreement gives that a quantum's end is recorded as the state judges it.
--- Assumes a sound plan, and progress after every list of calls.
-use mathlib.Core.Path.{_≡_, refl, sym, ap}
+-- Assumes a ladder of desires.
+use mathlib.Core.Path.{_≡_, refl, sym}
 use mathlib.Core.Bool.{true}
 use mathlib.Core.List.{List}
 use Prim.Native.Nat.{ℕ}
 use native.Mathlib.Omega.{arith}
-use native.Mathlib.Nat.{pow-zero}
-use Rattle.model.specs.Questions.{accepted}
 use Rattle.model.specs.Plan.{Plan}
-use Rattle.model.specs.Machine.{Call, grants, ticks, call-answer, no-quantum-open, fresh, grant, ticked, closes, closed, tick}
+use Rattle.model.specs.Machine.{Call, fresh, grant, ticked, closes, closed, tick}
 use Rattle.model.specs.History.{History, beginning, history-grant, history-tick, history-step, run}
-use Rattle.model.specs.Statements.{SoundPlan, Progress, ending, EndsAsRecorded}
-use Rattle.laws.proofs.Steps.{grant-accepted, tick-accepted}
-use Rattle.laws.proofs.Runs.{history-ticked, history-closed, step-execution, by-moves}
-use Rattle.laws.proofs.Powers.{Phase, phase-start, phase-granted, phase-ticked, phase-closed, Progressing, at-end, Power, ended}
+use Rattle.model.specs.Statements.{SoundPlan, ending, EndsAsRecorded}
+use Rattle.laws.proofs.Accepted.{GrantAccepted, TickAccepted, tick-accepted}
+use Rattle.laws.proofs.Runs.{history-ticked, history-closed, by-moves}
+use Rattle.laws.proofs.Progress.{tick-progress}
+use Rattle.laws.proofs.Ladder.{Ladder}
+use Rattle.laws.proofs.Powers.{Phase, phase-start, phase-granted, phase-ticked, phase-closed, at-end, OnLadder, ended}
 use Rattle.laws.proofs.PairingLaw.{Stacked, stacked-none, stacked-end}
 use Rattle.laws.proofs.MugLimitLaw.{Balance, balance-start, balance-granted, balance-ticked, balance-closed}
 
-pub record Carried (plan : Plan) (h : History) : Type 0 where
-  pub phase : Phase h
-  pub power : ℕ
-  pub desire : Power plan (h .state .desire) power
-  pub stack : Stacked plan (h .closed-quanta) power
-  pub balance : Balance plan (h .state) (h .closed-quanta) power
+module _ (plan : Plan) (ladder : Ladder (plan .terms)) where
+  pub record Carried (h : History) : Type 0 where
+    pub phase : Phase h
+    pub power : ℕ
+    pub desire : OnLadder ladder (h .state .desire) power
+    pub stack : Stacked ladder (h .closed-quanta) power
+    pub balance : Balance ladder (h .state) (h .closed-quanta) power
 
-carried-start : (plan : Plan) → Carried plan (beginning plan)
-unfolding beginning fresh
-carried-start plan =
-    record {
-      phase = phase-start plan;
-      power = 0;
-      desire = record { is-power = sym (pow-zero (plan .responsiveness)); at-most = omega arith };
-      stack = stacked-none plan;
-      balance = balance-start plan;
-    }
+  carried-start : Carried (beginning plan)
+  unfolding beginning fresh
+  carried-start =
+      record {
+        phase = phase-start plan;
+        power = 0;
+        desire = record { is-count = sym (ladder .starts); at-most = omega arith };
+        stack = stacked-none ladder;
+        balance = balance-start plan ladder;
+      }
 
-module _ (plan : Plan) (sound : SoundPlan plan) where
-  carried-granted : (g : ℕ) (h : History) → call-answer (grants g) (h .state) ≡ accepted → Carried plan h → Carried plan (history-grant g h)
+module _ {plan : Plan} (sound : SoundPlan plan) (ladder : Ladder (plan .terms)) where
+  carried-granted : (g : ℕ) (h : History) → GrantAccepted g (h .state) → Carried plan ladder h → Carried plan ladder (history-grant g h)
   unfolding history-grant grant
-  carried-granted g h answer c =
-      let asked = grant-accepted g (h .state) answer in
+  carried-granted g h asked c =
       record {
         phase = phase-granted g h asked;
         power = c .power;
         desire = c .desire;
         stack = c .stack;
-        balance = balance-granted plan (h .state) (h .closed-quanta) (c .power) (c .balance) g (ap no-quantum-open (asked .idle-quantum));
+        balance = balance-granted plan ladder (h .state) (h .closed-quanta) (c .power) (c .balance) g (asked .idle-quantum);
       }
 
-  progressing : (choices : List ℕ) (h : History) → Progress plan h → call-answer (ticks choices) (h .state) ≡ accepted →
-      Progressing plan choices (h .state)
-  progressing choices h progress answer some =
-      rw (← step-execution plan choices h answer) (progress choices answer some)
+  still-open : (calls : List Call) (choices : List ℕ) → TickAccepted choices (run plan calls .state) → Phase (run plan calls) →
+      Phase (history-ticked plan choices (run plan calls))
+  still-open calls choices asked = phase-ticked plan choices (run plan calls) asked (tick-progress sound calls choices asked)
 
-  carried-ticked : (choices : List ℕ) (h : History) → Progress plan h → call-answer (ticks choices) (h .state) ≡ accepted →
-      Carried plan h → Carried plan (history-ticked plan choices h)
+  carried-ticked : (calls : List Call) (choices : List ℕ) → TickAccepted choices (run plan calls .state) →
+      Carried plan ladder (run plan calls) → Carried plan ladder (history-ticked plan choices (run plan calls))
   unfolding ticked
-  carried-ticked choices h progress answer c =
-      let asked = tick-accepted choices (h .state) answer in
+  carried-ticked calls choices asked c =
       record {
-        phase = phase-ticked plan choices h asked (progressing choices h progress answer) (c .phase);
+        phase = still-open calls choices asked (c .phase);
         power = c .power;
         desire = c .desire;
         stack = c .stack;
-        balance = balance-ticked plan (h .state) (h .closed-quanta) (c .power) (c .balance) choices (ap no-quantum-open (asked .open-quantum));
+        balance =
+            balance-ticked plan ladder (run plan calls .state) (run plan calls .closed-quanta) (c .power) (c .balance) _
+            (asked .open-quantum)
+            choices (asked .one-each);
       }
 
-  carried-closed : (h : History) → closes plan (h .state) ≡ true → Carried plan h → Carried plan (history-closed plan h)
+  carried-closed : (h : History) → closes plan (h .state) ≡ true → Carried plan ladder h → Carried plan ladder (history-closed plan h)
   carried-closed h closing c =
-      let here = at-end plan sound h closing (c .phase) in
-      let next = ended plan sound (h .state) (here .no-more) (here .used) (c .power) (c .desire) in
+      let here = at-end plan (sound .terms) h closing (c .phase) in
+      let next = ended plan (sound .terms) ladder (h .state) (here .no-more) (here .used) (c .power) (c .desire) in
       record {
         phase = phase-closed plan h;
         power = next .after;
         desire = next .power;
         stack =
             rw (here .verdict-is)
-            (stacked-end plan (h .closed-quanta) (ending plan (h .state)) (h .state .execution .counts .usage) (c .power) (next .after)
-            (sound .responsive) (c .desire .is-power) (next .end) (c .stack));
+            (stacked-end ladder (h .closed-quanta) (ending plan (h .state)) (h .state .execution .counts .usage) (c .power) (next .after)
+            (c .desire .is-count) (next .end) (c .stack));
         balance =
             rw (here .verdict-is)
-            (balance-closed plan (h .state) (h .closed-quanta) (c .power) (c .balance) (next .after) (here .open-at-end)
-            (omega (arith, here .no-more, c .desire .is-power)) (c .desire .is-power) (next .end));
+            (balance-closed plan ladder (h .state) (h .closed-quanta) (c .power) (c .balance) _ (here .open-at-end) (next .after)
+            (here .no-more) (c .desire .is-count) (next .end));
       }
 
-  pub carried : ((calls : List Call) → Progress plan (run plan calls)) → (calls : List Call) → Carried plan (run plan calls)
-  carried progress =
-      by-moves plan (Carried plan) (carried-start plan)
-      (λ calls g answer c. carried-granted g (run plan calls) answer c)
-      (λ calls choices answer c. carried-ticked choices (run plan calls) (progress calls) answer c)
+  pub carried : (calls : List Call) → Carried plan ladder (run plan calls)
+  carried =
+      by-moves plan (Carried plan ladder) (carried-start plan ladder)
+      (λ calls g asked c. carried-granted g (run plan calls) asked c)
+      carried-ticked
       carried-closed
 
   -- the quantum that a tick closes was begun with the desire and the allotment that the state still shows
-  pub ends-as-recorded : (h : History) → Progress plan h → Carried plan h → EndsAsRecorded plan h
+  pub ends-as-recorded : (calls : List Call) → EndsAsRecorded plan (run plan calls)
   unfolding history-step history-tick tick closed
-  ends-as-recorded h progress c choices answer closing =
-      let asked = tick-accepted choices (h .state) answer in
-      let open-still = phase-ticked plan choices h asked (progressing choices h progress answer) (c .phase) in
-      let here = at-end plan sound (history-ticked plan choices h) closing open-still in
+  ends-as-recorded calls choices answer closing =
+      let open-still = still-open calls choices (tick-accepted choices (run plan calls .state) answer) (carried calls .phase) in
+      let here = at-end plan (sound .terms) (history-ticked plan choices (run plan calls)) closing open-still in
       record { recorded = rw (answer, closing, here .verdict-is) refl; moved = rw (answer, closing) refl }

@@ -1,5 +1,5 @@
--- A worker's cycle by its four kinds, with what is known of the execution in each (`cycle-cases`); the lengths that a cycle keeps; and what
--- every cycle keeps is kept by a tick's cycles (`cycles-keep`, and `cycles-made-keep` for what speaks of the cycles made too).
+-- A worker's cycle by its four kinds, with what is known of the execution in each (`cycle-cases`); the allotment that a cycle keeps; and
+-- what every cycle keeps is kept by a tick's cycles (`cycles-keep`, and `cycles-made-keep` for what speaks of the cycles made too).
 -- Assumes nothing.
 use mathlib.Core.Path.{_≡_, refl, _∙_}
 use mathlib.Core.Bool.{Bool, true, false, cond}
@@ -9,20 +9,22 @@ use native.Mathlib.Omega.{arith}
 use lib.Dec.{leb}
 use lib.ListN.{length, length-set}
 use borrow.Author.Tests.{leb-true, leb-false}
-use Rattle.model.specs.Plan.{Plan}
-use Rattle.model.specs.Machine.{Execution, deque-of, Cycle, works-on, mugs-deque, steals-from, steals-nothing, decided, performed, cycle-of, work-cycle, mug-cycle, successful-steal, failed-steal, cycle, cycles, cycles-made, finished}
+use Rattle.model.specs.Plan.{Graph}
+use Rattle.model.specs.Machine.{Execution, deque-of, Cycle, works-on, mugs-deque, steals-from, steals-nothing, decided, performed, cycle-of}
+use Rattle.model.specs.Machine.{work-cycle, mug-cycle, successful-steal, failed-steal, cycle, cycles, cycles-made, finished}
 
 -- what the four kinds of cycle have to show, to show P of every cycle and the execution after it
-pub record Kinds (plan : Plan) (w choice : ℕ) (e : Execution) (P : Cycle → Execution → Type 0) : Type 0 where
-  pub working : (t : ℕ) (rest : List ℕ) → deque-of e w ≡ t ∷ rest → P (works-on t) (work-cycle plan w t e)
+pub record Kinds (graph : Graph) (w choice : ℕ) (e : Execution) (P : Cycle → Execution → Type 0) : Type 0 where
+  pub working : (t : ℕ) (rest : List ℕ) → deque-of e w ≡ t ∷ rest → P (works-on t) (work-cycle graph w t e)
   pub mugging : (oldest : List ℕ) (others : List (List ℕ)) → deque-of e w ≡ [] → e .muggable ≡ oldest ∷ others →
       P (mugs-deque oldest) (mug-cycle w oldest e)
-  pub stealing : deque-of e w ≡ [] → e .muggable ≡ [] → 2 ≤ length (deque-of e choice) → P (steals-from choice) (successful-steal w choice e)
+  pub stealing : deque-of e w ≡ [] → e .muggable ≡ [] → 2 ≤ length (deque-of e choice) →
+      P (steals-from choice) (successful-steal w choice e)
   pub failing : deque-of e w ≡ [] → e .muggable ≡ [] → length (deque-of e choice) < 2 → P steals-nothing (failed-steal e)
 
-module _ (plan : Plan) (w choice : ℕ) (e : Execution) (P : Cycle → Execution → Type 0) (kinds : Kinds plan w choice e P) where
+module _ (graph : Graph) (w choice : ℕ) (e : Execution) (P : Cycle → Execution → Type 0) (kinds : Kinds graph w choice e P) where
   abbrev Shown : Cycle → Type 0
-  Shown c = P c (performed plan w c e)
+  Shown c = P c (performed graph w c e)
 
   by-victim : deque-of e w ≡ [] → e .muggable ≡ [] → (b : Bool) → leb 2 (length (deque-of e choice)) ≡ b →
       Shown (cond b (steals-from choice) steals-nothing)
@@ -35,16 +37,16 @@ module _ (plan : Plan) (w choice : ℕ) (e : Execution) (P : Cycle → Execution
   by-deques [] (oldest ∷ others) p q = kinds .mugging oldest others p q
   by-deques [] [] p q = by-victim p q (leb 2 (length (deque-of e choice))) refl
 
-  pub cycle-cases : P (cycle-of w choice e) (cycle plan w choice e)
+  pub cycle-cases : P (cycle-of w choice e) (cycle graph w choice e)
   unfolding cycle cycle-of
   cycle-cases = by-deques (deque-of e w) (e .muggable) refl refl
 
--- ---- what has its length kept
+-- ---- the allotment
 
-pub cycle-allotment : (plan : Plan) (w choice : ℕ) (e : Execution) → length (cycle plan w choice e .deques) ≡ length (e .deques)
+pub cycle-allotment : (graph : Graph) (w choice : ℕ) (e : Execution) → length (cycle graph w choice e .deques) ≡ length (e .deques)
 unfolding work-cycle mug-cycle successful-steal failed-steal
-cycle-allotment plan w choice e =
-    cycle-cases plan w choice e
+cycle-allotment graph w choice e =
+    cycle-cases graph w choice e
     (λ c after. length (after .deques) ≡ length (e .deques))
     (record {
       working = λ t rest p. simp length-set;
@@ -53,53 +55,41 @@ cycle-allotment plan w choice e =
       failing = λ p q h. refl;
     })
 
-pub cycle-flags : (plan : Plan) (w choice : ℕ) (e : Execution) → length (cycle plan w choice e .worked) ≡ length (e .worked)
-unfolding work-cycle mug-cycle successful-steal failed-steal
-cycle-flags plan w choice e =
-    cycle-cases plan w choice e
-    (λ c after. length (after .worked) ≡ length (e .worked))
-    (record {
-      working = λ t rest p. simp length-set;
-      mugging = λ oldest others p q. refl;
-      stealing = λ p q h. refl;
-      failing = λ p q h. refl;
-    })
-
 -- ---- a tick's cycles
 
 -- what each cycle keeps, of the cycles made so far and the execution, is kept by the cycles of workers w and up
-module _ (plan : Plan) (P : List Cycle → Execution → Type 0)
+module _ (graph : Graph) (P : List Cycle → Execution → Type 0)
     (one : (made : List Cycle) (w choice : ℕ) (e : Execution) → w < length (e .deques) → finished e ≡ false → P made e →
-    P (made ++ (cycle-of w choice e ∷ [])) (cycle plan w choice e)) where
-  pub cycles-made-keep : (choices : List ℕ) (made : List Cycle) (w : ℕ) (e : Execution) → w + length choices ≤ length (e .deques) → P made e →
-      P (made ++ cycles-made plan w choices e) (cycles plan w choices e)
+    P (made ++ (cycle-of w choice e ∷ [])) (cycle graph w choice e)) where
+  pub cycles-made-keep : (choices : List ℕ) (made : List Cycle) (w : ℕ) (e : Execution) → w + length choices ≤ length (e .deques) →
+      P made e → P (made ++ cycles-made graph w choices e) (cycles graph w choices e)
   unfolding cycles cycles-made
   cycles-made-keep [] made w e h p = rw append-nil p
   cycles-made-keep (choice ∷ choices) made w e h p =
       go (finished e) refl
-      (λ q. cycles-made-keep choices (made ++ (cycle-of w choice e ∷ [])) (suc w) (cycle plan w choice e) (omega (arith, cycle-allotment plan w choice e)) q)
+      (λ q. cycles-made-keep choices (made ++ (cycle-of w choice e ∷ [])) (suc w) (cycle graph w choice e)
+      (omega (arith, cycle-allotment graph w choice e)) q)
     where
       go : (b : Bool) → finished e ≡ b →
-          (P (made ++ (cycle-of w choice e ∷ [])) (cycle plan w choice e) →
-          P ((made ++ (cycle-of w choice e ∷ [])) ++ cycles-made plan (suc w) choices (cycle plan w choice e))
-          (cycles plan (suc w) choices (cycle plan w choice e))) →
-          P (made ++ cond b [] (cycle-of w choice e ∷ cycles-made plan (suc w) choices (cycle plan w choice e)))
-          (cond b e (cycles plan (suc w) choices (cycle plan w choice e)))
+          (P (made ++ (cycle-of w choice e ∷ [])) (cycle graph w choice e) →
+          P ((made ++ (cycle-of w choice e ∷ [])) ++ cycles-made graph (suc w) choices (cycle graph w choice e))
+          (cycles graph (suc w) choices (cycle graph w choice e))) →
+          P (made ++ cond b [] (cycle-of w choice e ∷ cycles-made graph (suc w) choices (cycle graph w choice e)))
+          (cond b e (cycles graph (suc w) choices (cycle graph w choice e)))
       go true f onward = rw append-nil p
       go false f onward =
-          rw (append-assoc made (cycle-of w choice e ∷ []) (cycles-made plan (suc w) choices (cycle plan w choice e))) at
+          rw (append-assoc made (cycle-of w choice e ∷ []) (cycles-made graph (suc w) choices (cycle graph w choice e))) at
           (onward (one made w choice e (omega arith) f p))
 
-module _ (plan : Plan) (P : Execution → Type 0)
-    (one : (w choice : ℕ) (e : Execution) → w < length (e .deques) → finished e ≡ false → P e → P (cycle plan w choice e)) where
-  pub cycles-keep : (choices : List ℕ) (w : ℕ) (e : Execution) → w + length choices ≤ length (e .deques) → P e → P (cycles plan w choices e)
-  cycles-keep choices w e h p = cycles-made-keep plan (λ made after. P after) (λ made w choice e l f q. one w choice e l f q) choices [] w e h p
+module _ (graph : Graph) (P : Execution → Type 0)
+    (one : (w choice : ℕ) (e : Execution) → w < length (e .deques) → finished e ≡ false → P e → P (cycle graph w choice e)) where
+  pub cycles-keep : (choices : List ℕ) (w : ℕ) (e : Execution) → w + length choices ≤ length (e .deques) → P e →
+      P (cycles graph w choices e)
+  cycles-keep choices w e h p =
+      cycles-made-keep graph (λ made after. P after) (λ made w choice e l f q. one w choice e l f q) choices [] w e h p
 
-module _ (plan : Plan) (choices : List ℕ) (w : ℕ) (e : Execution) (h : w + length choices ≤ length (e .deques)) where
-  pub cycles-allotment : length (cycles plan w choices e .deques) ≡ length (e .deques)
+module _ (graph : Graph) (choices : List ℕ) (w : ℕ) (e : Execution) (h : w + length choices ≤ length (e .deques)) where
+  pub cycles-allotment : length (cycles graph w choices e .deques) ≡ length (e .deques)
   cycles-allotment =
-      cycles-keep plan (λ after. length (after .deques) ≡ length (e .deques)) (λ v c before l f q. cycle-allotment plan v c before ∙ q) choices w e h refl
-
-  pub cycles-flags : length (cycles plan w choices e .worked) ≡ length (e .worked)
-  cycles-flags =
-      cycles-keep plan (λ after. length (after .worked) ≡ length (e .worked)) (λ v c before l f q. cycle-flags plan v c before ∙ q) choices w e h refl
+      cycles-keep graph (λ after. length (after .deques) ≡ length (e .deques))
+      (λ v c before l f q. cycle-allotment graph v c before ∙ q) choices w e h refl

@@ -1,5 +1,5 @@
--- A grant moves deques and loses none: the tasks stay placed, the first grant above 0 puts task 0 into worker 0's deque, and the deques number at
--- most the largest count granted.
+-- A grant moves deques and loses none: the tasks stay placed, the first grant above 0 puts task 0 into worker 0's deque, and the deques
+-- number at most the largest count granted.
 -- Assumes nothing.
 use mathlib.Core.Path.{_≡_, refl, sym, ap, _∙_}
 use mathlib.Core.Bool.{Bool, true, false, cond}
@@ -11,12 +11,15 @@ use lib.Dec.{eqb, ltb}
 use lib.ListN.{length, take, drop, replicate, length-append, length-take, length-replicate}
 use borrow.Author.Tests.{ltb-true, ltb-false, ne-eqb}
 use Rattle.model.specs.Tests.{every, keep}
-use Rattle.model.specs.Plan.{Plan, tasks}
+use Rattle.model.specs.Plan.{Graph, tasks}
 use Rattle.model.specs.Machine.{State, allotment, kept-deques, withdrawn-deques, first-task-placed, place-first-task, grant}
-use Rattle.model.specs.Statements.{SoundPlan}
+use Rattle.model.specs.Statements.{SoundGraph}
 use Rattle.laws.specs.Invariants.{occurrences, in-deques, busy, waiting-work, Placed, Bounded}
 use Rattle.laws.specs.Reached.{Unstarted}
-use Rattle.laws.proofs.Lists.{true-is-not-false, non-empty, in-deques-append, in-deques-split, in-deques-non-empty, in-deques-empty, busy-append, busy-split, busy-non-empty, busy-empty, every-append, kept-passes, none-set}
+use Rattle.lists.proofs.Tests.{true-is-not-false}
+use Rattle.laws.proofs.Deques.{non-empty, in-deques-append, in-deques-split, in-deques-non-empty, in-deques-empty}
+use Rattle.lists.proofs.Lists.{every-append, kept-passes, none-set}
+use Rattle.laws.proofs.Deques.{busy-append, busy-split, busy-non-empty, busy-empty, busy-at-most}
 use Rattle.laws.proofs.Readiness.{is-waiting, first-ready, others-not-ready, not-waiting-unready, not-waiting-outside}
 
 -- ---- kept and withdrawn deques
@@ -81,10 +84,21 @@ grant-allotment g s = go (s .started)
     go true = kept-length g (s .execution .deques)
     go false = place-first-length (kept-deques g (s .execution .deques)) ∙ kept-length g (s .execution .deques)
 
+-- a grant withdraws no more workers than there were
+pub withdrawn-at-most : (g : ℕ) (s : State) → length (grant g s .execution .muggable) ≤ length (s .execution .muggable) + allotment s
+unfolding grant
+withdrawn-at-most g s =
+    omega (
+      arith,
+      length-append (s .execution .muggable) (withdrawn-deques g (s .execution .deques)),
+      kept-and-withdrawn-busy g (s .execution .deques),
+      busy-at-most (s .execution .deques),
+    )
+
 -- ---- a grant to a job that has started
 
 module _ (s : State) (on : s .started ≡ true) (g : ℕ) where
-  pub grant-placed : {plan : Plan} → Placed plan (s .execution) → Placed plan (grant g s .execution)
+  pub grant-placed : {graph : Graph} → Placed graph (s .execution) → Placed graph (grant g s .execution)
   unfolding grant first-task-placed
   grant-placed placed =
       rw on
@@ -122,33 +136,33 @@ module _ (s : State) (on : s .started ≡ true) (g : ℕ) where
 -- ---- the first grant above 0
 
 -- at the beginning task 0 alone is ready
-first-waiting : {plan : Plan} → SoundPlan plan → (t : ℕ) → waiting-work plan (replicate (tasks plan) false) t ≡ eqb t 0
-first-waiting {plan} sound zero =
-    is-waiting plan (replicate (tasks plan) false) 0
+first-waiting : {graph : Graph} → SoundGraph graph → (t : ℕ) → waiting-work graph (replicate (tasks graph) false) t ≡ eqb t 0
+first-waiting {graph} sound zero =
+    is-waiting graph (replicate (tasks graph) false) 0
     (record {
       of-plan = sound .some-task;
-      is-ready = first-ready sound (replicate (tasks plan) false);
-      unworked = none-set (tasks plan) 0;
+      is-ready = first-ready sound (replicate (tasks graph) false);
+      unworked = none-set (tasks graph) 0;
     })
-first-waiting {plan} sound (suc t) = go (ltb (suc t) (tasks plan)) refl ∙ sym (ne-eqb (suc t) 0 (omega arith))
+first-waiting {graph} sound (suc t) = go (ltb (suc t) (tasks graph)) refl ∙ sym (ne-eqb (suc t) 0 (omega arith))
   where
-    go : (b : Bool) → ltb (suc t) (tasks plan) ≡ b → waiting-work plan (replicate (tasks plan) false) (suc t) ≡ false
+    go : (b : Bool) → ltb (suc t) (tasks graph) ≡ b → waiting-work graph (replicate (tasks graph) false) (suc t) ≡ false
     go true h =
-        not-waiting-unready plan (replicate (tasks plan) false) (suc t)
-        (others-not-ready sound (suc t) (omega arith) (ltb-true (suc t) (tasks plan) h))
-    go false h = not-waiting-outside plan (replicate (tasks plan) false) (suc t) (ltb-false (suc t) (tasks plan) h)
+        not-waiting-unready graph (replicate (tasks graph) false) (suc t)
+        (others-not-ready sound (suc t) (omega arith) (ltb-true (suc t) (tasks graph) h))
+    go false h = not-waiting-outside graph (replicate (tasks graph) false) (suc t) (ltb-false (suc t) (tasks graph) h)
 
-module _ {plan : Plan} (s : State) (off : s .started ≡ false) (u : Unstarted plan (s .execution)) where
-  pub first-grant-placed : SoundPlan plan → (g : ℕ) → 1 ≤ g → Placed plan (grant g s .execution)
+module _ {graph : Graph} (s : State) (off : s .started ≡ false) (u : Unstarted graph (s .execution)) where
+  pub first-grant-placed : SoundGraph graph → (g : ℕ) → 1 ≤ g → Placed graph (grant g s .execution)
   unfolding grant first-task-placed every in-deques occurrences
   first-grant-placed sound zero l = absurd (not-suc-le-zero l)
   first-grant-placed sound (suc n) l =
       rw (off, u .no-deques, u .no-muggable, u .none-worked, first-deques n, none-withdrawn (suc n))
       (record {
-        flags = length-replicate (tasks plan) false;
+        flags = length-replicate (tasks graph) false;
         once = λ t. omega (arith, in-deques-empty t n, ap (λ (b : Bool). cond {A = ℕ} b 1 0) (first-waiting sound t));
         filled = refl;
-        ordered = λ t h. absurd (true-is-not-false h (none-set (tasks plan) t));
+        ordered = λ t h. absurd (true-is-not-false h (none-set (tasks graph) t));
       })
 
   pub first-grant-bounded : (g : ℕ) → 1 ≤ g → Bounded g (grant g s .execution)
@@ -163,7 +177,7 @@ module _ {plan : Plan} (s : State) (off : s .started ≡ false) (u : Unstarted p
       })
 
   -- a grant of 0 before it leaves nothing anywhere
-  pub no-grant-unstarted : Unstarted plan (grant 0 s .execution)
+  pub no-grant-unstarted : Unstarted graph (grant 0 s .execution)
   unfolding grant first-task-placed kept-deques
   no-grant-unstarted =
       rw (off, u .no-deques, u .no-muggable, u .none-worked, none-withdrawn 0)

@@ -1,5 +1,5 @@
--- What holds after any list of calls, refused ones included, by one induction: where the tasks stand (`arranged`), that the deques number at most
--- the largest count granted so far (`largest-bounds`) and at most 64, and how large each count can be (`measured`, `counts-fit`).
+-- What holds after any list of calls, refused ones included: where the tasks stand (`arranged`), that the deques number at most the largest
+-- count granted so far (`largest-bounds`) and at most 64, and how large each count can be (`measured`, `counts-fit`).
 -- Assumes nothing.
 use mathlib.Core.Path.{_≡_, refl, sym, ap, _∙_}
 use mathlib.Core.Bool.{Bool, true, false, cond, not, _&&_}
@@ -10,28 +10,34 @@ use native.Mathlib.Omega.{arith}
 use lib.Dec.{eqb, leb}
 use lib.ListN.{length, length-replicate}
 use borrow.Author.Tests.{eqb-false, ne-eqb, leb-true}
-use Rattle.model.specs.Plan.{Plan, tasks}
-use Rattle.model.specs.Machine.{Execution, State, allotment, idle, opened, ticks-of, fresh, grant, cycles, cycles-made, tick, ticked, closes, closed, finished, most-workers, next-desire, Call, efficient-now, satisfied-now}
-use Rattle.model.specs.History.{ClosedQuantum, CurrentQuantum, none, begun-with, History, beginning, history-grant, history-tick, verdict, run}
+use Rattle.model.specs.Plan.{Plan, Terms, Graph, tasks, most-tasks, longest-quantum}
+use Rattle.model.specs.Machine.{Execution, State, allotment, idle, opened, ticks-of, fresh, grant, cycles, cycles-made, tick, ticked}
+use Rattle.model.specs.Machine.{closes, closed, finished, most-workers, next-desire, Call, efficient-now, satisfied-now}
+use Rattle.model.specs.History.{ClosedQuantum, CurrentQuantum, none, begun-with, History, beginning, history-grant, history-tick, verdict}
+use Rattle.model.specs.History.{run}
 use Rattle.model.specs.Statements.{SoundPlan}
 use Rattle.laws.specs.Invariants.{busy, Placed, Bounded, Tallied}
-use Rattle.laws.specs.Reached.{Unstarted, Arranged, granted-in, largest-closed, largest-granted, OpenQuantum, Measured, CountsFit}
-use Rattle.laws.proofs.Lists.{true-is-not-false, count-set-none, count-set-at-most}
+use Rattle.laws.specs.Reached.{Unstarted, Arranged, granted-in, largest-closed, largest-granted, all-counted, OpenQuantum, Measured}
+use Rattle.laws.specs.Reached.{CountsFit}
+use Rattle.lists.proofs.Tests.{true-is-not-false}
+use Rattle.lists.proofs.Lists.{count-set-none, count-set-at-most}
 use Rattle.laws.proofs.Cycles.{cycles-allotment}
 use Rattle.laws.proofs.Placement.{cycles-placed, cycles-tallied}
 use Rattle.laws.proofs.Bounds.{bounded-more, cycles-bounded}
-use Rattle.laws.proofs.Grants.{grant-allotment, grant-placed, grant-bounded, first-grant-placed, first-grant-bounded, no-grant-unstarted}
+use Rattle.laws.proofs.Grants.{grant-allotment, grant-placed, grant-bounded, first-grant-placed, first-grant-bounded}
+use Rattle.laws.proofs.Grants.{no-grant-unstarted}
 use Rattle.laws.proofs.Meaning.{cycles-counted, all-kinds, successes-are-steals, made-at-most}
-use Rattle.laws.proofs.Steps.{GrantAccepted, TickAccepted, tick-cases, tick-execution, tick-started, run-keeps}
+use Rattle.laws.proofs.Accepted.{GrantAccepted, TickAccepted, tick-cases, tick-execution, tick-started}
+use Rattle.laws.proofs.Runs.{history-closed, run-keeps, by-moves}
 
 -- ---- where the tasks stand
 
 -- with no worker a tick does nothing
-pub unstarted-cycles : (plan : Plan) (e : Execution) → Unstarted plan e → (choices : List ℕ) → length choices ≡ length (e .deques) →
-    (cycles plan 0 choices e ≡ e) × (cycles-made plan 0 choices e ≡ [])
+pub unstarted-cycles : (graph : Graph) (e : Execution) → Unstarted graph e → (choices : List ℕ) → length choices ≡ length (e .deques) →
+    (cycles graph 0 choices e ≡ e) × (cycles-made graph 0 choices e ≡ [])
 unfolding cycles cycles-made
-unstarted-cycles plan e u [] h = (refl, refl)
-unstarted-cycles plan e u (c ∷ choices) h = let z : _≡_ {A = ℕ} (length (e .deques)) 0 = ap length (u .no-deques) in absurd (omega arith)
+unstarted-cycles graph e u [] h = (refl, refl)
+unstarted-cycles graph e u (c ∷ choices) h = let z : _≡_ {A = ℕ} (length (e .deques)) 0 = ap length (u .no-deques) in absurd (omega arith)
 
 module _ {plan : Plan} (sound : SoundPlan plan) where
   pub fresh-arranged : Arranged plan (fresh plan)
@@ -40,23 +46,23 @@ module _ {plan : Plan} (sound : SoundPlan plan) where
       record {
         before = λ h. record { none-worked = refl; no-deques = refl; no-muggable = refl };
         after = λ h. absurd (true-is-not-false h refl);
-        tally = record { work-is-tasks = sym (count-set-none (tasks plan)) };
+        tally = record { work-is-tasks = sym (count-set-none (tasks (plan .graph))) };
       }
 
   module _ (s : State) (a : Arranged plan s) where
-    still-unstarted : (g : ℕ) → grant g s .started ≡ false → Unstarted plan (grant g s .execution)
+    still-unstarted : (g : ℕ) → grant g s .started ≡ false → Unstarted (plan .graph) (grant g s .execution)
     unfolding grant
     still-unstarted zero h = no-grant-unstarted s h (a .before h)
     still-unstarted (suc n) h = absurd (true-is-not-false refl (rw (ne-eqb (suc n) 0 (omega arith)) at h))
 
-    then-placed : (g : ℕ) → grant g s .started ≡ true → Placed plan (grant g s .execution)
+    then-placed : (g : ℕ) → grant g s .started ≡ true → Placed (plan .graph) (grant g s .execution)
     unfolding grant
     then-placed zero h = grant-placed s h 0 (a .after h)
     then-placed (suc n) h = go (s .started) refl
       where
-        go : (b : Bool) → s .started ≡ b → Placed plan (grant (suc n) s .execution)
+        go : (b : Bool) → s .started ≡ b → Placed (plan .graph) (grant (suc n) s .execution)
         go true on = grant-placed s on (suc n) (a .after on)
-        go false off = first-grant-placed s off (a .before off) sound (suc n) (omega arith)
+        go false off = first-grant-placed s off (a .before off) (sound .graph) (suc n) (omega arith)
 
     pub grant-arranged : (g : ℕ) → Arranged plan (grant g s)
     grant-arranged g =
@@ -71,24 +77,25 @@ module _ {plan : Plan} (sound : SoundPlan plan) where
         record {
           before = λ h.
               let off = sym (tick-started plan choices s) ∙ h in
-              rw (tick-execution plan choices s, unstarted-cycles plan (s .execution) (a .before off) choices (t .one-each) .0) (a .before off);
+              rw (tick-execution plan choices s, unstarted-cycles (plan .graph) (s .execution) (a .before off) choices (t .one-each) .0)
+              (a .before off);
           after = λ h.
               let on = sym (tick-started plan choices s) ∙ h in
-              rw (tick-execution plan choices s) (cycles-placed sound (a .after on) 0 choices (omega (arith, t .one-each)));
+              rw (tick-execution plan choices s) (cycles-placed (sound .graph) (a .after on) 0 choices (omega (arith, t .one-each)));
           tally = rw (tick-execution plan choices s) (go (s .started) refl);
         }
       where
-        go : (b : Bool) → s .started ≡ b → Tallied (cycles plan 0 choices (s .execution))
-        go true on = cycles-tallied sound (a .after on) (a .tally) 0 choices (omega (arith, t .one-each))
-        go false off = rw (unstarted-cycles plan (s .execution) (a .before off) choices (t .one-each) .0) (a .tally)
+        go : (b : Bool) → s .started ≡ b → Tallied (cycles (plan .graph) 0 choices (s .execution))
+        go true on = cycles-tallied (sound .graph) (a .after on) (a .tally) 0 choices (omega (arith, t .one-each))
+        go false off = rw (unstarted-cycles (plan .graph) (s .execution) (a .before off) choices (t .one-each) .0) (a .tally)
 
   pub arranged : (calls : List Call) → Arranged plan (run plan calls .state)
   unfolding beginning history-grant history-tick
   arranged calls =
       run-keeps plan (λ h. Arranged plan (h .state))
       fresh-arranged
-      (λ g h t a. grant-arranged (h .state) a g)
-      (λ choices h t a. tick-arranged (h .state) a choices t)
+      (λ done g t a. grant-arranged (run plan done .state) a g)
+      (λ done choices t a. tick-arranged (run plan done .state) a choices t)
       calls
 
 module _ {plan : Plan} {s : State} (a : Arranged plan s) where
@@ -100,25 +107,25 @@ module _ {plan : Plan} {s : State} (a : Arranged plan s) where
       go true on = on
       go false off = let z : allotment s ≡ 0 = ap length (a .before off .no-deques) in absurd (omega arith)
 
-  pub workers-placed : 1 ≤ allotment s → Placed plan (s .execution)
+  pub workers-placed : 1 ≤ allotment s → Placed (plan .graph) (s .execution)
   workers-placed h = a .after (workers-started h)
 
   -- started or not, there is a flag for each task
-  pub flags-length : length (s .execution .worked) ≡ tasks plan
+  pub flags-length : length (s .execution .worked) ≡ tasks (plan .graph)
   flags-length = go (s .started) refl
     where
-      go : (b : Bool) → s .started ≡ b → length (s .execution .worked) ≡ tasks plan
+      go : (b : Bool) → s .started ≡ b → length (s .execution .worked) ≡ tasks (plan .graph)
       go true on = a .after on .flags
-      go false off = ap length (a .before off .none-worked) ∙ length-replicate (tasks plan) false
+      go false off = ap length (a .before off .none-worked) ∙ length-replicate (tasks (plan .graph)) false
 
-  pub work-at-most : s .execution .counts .works .work ≤ tasks plan
+  pub work-at-most : s .execution .counts .works .work ≤ tasks (plan .graph)
   work-at-most = omega (arith, a .tally .work-is-tasks, count-set-at-most (s .execution .worked), flags-length)
 
 -- ---- how many deques
 
-unstarted-bounded : {plan : Plan} {e : Execution} (most : ℕ) → Unstarted plan e → Bounded most e
+unstarted-bounded : {graph : Graph} {e : Execution} (most : ℕ) → Unstarted graph e → Bounded most e
 unfolding busy
-unstarted-bounded {plan} {e} most u =
+unstarted-bounded {graph} {e} most u =
     let a : length (e .deques) ≡ 0 = ap length (u .no-deques) in
     let b : busy (e .deques) ≡ 0 = ap busy (u .no-deques) in
     let c : length (e .muggable) ≡ 0 = ap length (u .no-muggable) in
@@ -143,77 +150,44 @@ unfolding largest-closed
 largest-verdict plan none usage = refl
 largest-verdict plan (begun-with wanted granted) usage = omega arith
 
--- a tick grants nothing
-tick-largest : (plan : Plan) (choices : List ℕ) (h : History) → largest-granted (history-tick plan choices h) ≡ largest-granted h
-unfolding history-tick largest-granted
-tick-largest plan choices h = go (closes plan after)
-  where
-    after : State
-    after = ticked plan choices (h .state)
-
-    judged : List ClosedQuantum
-    judged = verdict plan (h .current) (after .execution .counts .usage)
-
-    go : (b : Bool) →
-        max (largest-closed (cond b (h .closed-quanta ++ judged) (h .closed-quanta))) (granted-in (cond b none (h .current)))
-        ≡ max (largest-closed (h .closed-quanta)) (granted-in (h .current))
-    go true =
-        omega (arith, largest-append (h .closed-quanta) judged, largest-verdict plan (h .current) (after .execution .counts .usage))
-    go false = refl
-
-record Largest (plan : Plan) (h : History) : Type 0 where
-  place : Arranged plan (h .state)
-  none-current : h .state .quantum ≡ idle → granted-in (h .current) ≡ 0
-  at-most : Bounded (largest-granted h) (h .state .execution)
-
 not-idle : {k : ℕ} → opened k ≡ idle → ⊥
 not-idle p = let z : _≡_ {A = ℕ} 0 1 = cc in omega arith
 
-closed-none : (plan : Plan) (choices : List ℕ) (h : History) → history-tick plan choices h .state .quantum ≡ idle →
-    granted-in (history-tick plan choices h .current) ≡ 0
-unfolding history-tick tick closed ticked
-closed-none plan choices h = go (closes plan (ticked plan choices (h .state)))
-  where
-    go : (b : Bool) → cond b (closed plan (ticked plan choices (h .state))) (ticked plan choices (h .state)) .quantum ≡ idle →
-        granted-in (cond b none (h .current)) ≡ 0
-    go true p = refl
-    go false p = absurd (not-idle p)
+record Largest (h : History) : Type 0 where
+  none-current : h .state .quantum ≡ idle → granted-in (h .current) ≡ 0
+  at-most : Bounded (largest-granted h) (h .state .execution)
+
+-- a quantum's end grants nothing
+closed-largest : (plan : Plan) (h : History) → Largest h → Largest (history-closed plan h)
+unfolding largest-granted closed
+closed-largest plan h l =
+    let usage = h .state .execution .counts .usage in
+    let joined = largest-append (h .closed-quanta) (verdict plan (h .current) usage) in
+    let judged = largest-verdict plan (h .current) usage in
+    record { none-current = λ p. refl; at-most = bounded-more (omega arith) (l .at-most) }
 
 module _ {plan : Plan} (sound : SoundPlan plan) where
-  largest-grant : (g : ℕ) (h : History) → GrantAccepted g (h .state) → Largest plan h → Largest plan (history-grant g h)
-  unfolding history-grant largest-granted grant
-  largest-grant g h t l =
-      record {
-        place = grant-arranged sound (h .state) (l .place) g;
-        none-current = λ p. absurd (not-idle p);
-        at-most =
-            let z = l .none-current (t .idle-quantum) in
-            bounded-more (omega arith) (arranged-grant-bounded (l .place) (l .at-most) g);
-      }
-
-  largest-tick : (choices : List ℕ) (h : History) → TickAccepted choices (h .state) → Largest plan h → Largest plan (history-tick plan choices h)
-  largest-tick choices h t l =
-      record {
-        place = unfold history-tick in tick-arranged sound (h .state) (l .place) choices t;
-        none-current = closed-none plan choices h;
-        at-most =
-            rw (tick-largest plan choices h)
-            (unfold history-tick in
-            rw (tick-execution plan choices (h .state)) (cycles-bounded plan (l .at-most) 0 choices (omega (arith, t .one-each))));
-      }
-
-  largest : (calls : List Call) → Largest plan (run plan calls)
-  largest calls =
-      run-keeps plan (Largest plan)
+  largest : (calls : List Call) → Largest (run plan calls)
+  largest =
+      by-moves plan Largest
       (unfold beginning fresh largest-granted in
       record {
-        place = fresh-arranged sound;
         none-current = λ p. refl;
         at-most = unstarted-bounded (max (largest-closed []) 0) (fresh-arranged sound .before refl);
       })
-      largest-grant
-      largest-tick
-      calls
+      (λ done g t l. unfold history-grant largest-granted grant in
+      record {
+        none-current = λ p. absurd (not-idle p);
+        at-most =
+            let z = l .none-current (t .idle-quantum) in
+            bounded-more (omega arith) (arranged-grant-bounded (arranged sound done) (l .at-most) g);
+      })
+      (λ done choices t l. unfold ticked largest-granted in
+      record {
+        none-current = λ p. absurd (not-idle p);
+        at-most = cycles-bounded (plan .graph) (l .at-most) 0 choices (omega (arith, t .one-each));
+      })
+      (λ h closing l. closed-largest plan h l)
 
   -- the workers' non-empty deques and the muggable ones number at most the largest count granted so far
   pub largest-bounds : (calls : List Call) → Bounded (largest-granted (run plan calls)) (run plan calls .state .execution)
@@ -222,15 +196,15 @@ module _ {plan : Plan} (sound : SoundPlan plan) where
 -- ---- how large the counts can be
 
 -- no rule takes the desire above 64
-desire-at-most : (plan : Plan) (desire : ℕ) (e s : Bool) → desire ≤ most-workers → next-desire plan desire e s ≤ most-workers
+desire-at-most : (terms : Terms) (desire : ℕ) (e s : Bool) → desire ≤ most-workers → next-desire terms desire e s ≤ most-workers
 unfolding next-desire
-desire-at-most plan desire false s h = omega (arith, div-le-self desire (plan .responsiveness))
-desire-at-most plan desire true true h = go (leb (desire * plan .responsiveness) most-workers) refl
+desire-at-most terms desire false s h = omega (arith, div-le-self desire (terms .responsiveness))
+desire-at-most terms desire true true h = go (leb (desire * terms .responsiveness) most-workers) refl
   where
-    go : (b : Bool) → leb (desire * plan .responsiveness) most-workers ≡ b → cond b (desire * plan .responsiveness) desire ≤ most-workers
-    go true e = leb-true (desire * plan .responsiveness) most-workers e
+    go : (b : Bool) → leb (desire * terms .responsiveness) most-workers ≡ b → cond b (desire * terms .responsiveness) desire ≤ most-workers
+    go true e = leb-true (desire * terms .responsiveness) most-workers e
     go false e = h
-desire-at-most plan desire true false h = h
+desire-at-most terms desire true false h = h
 
 not-opened : {k : ℕ} → idle ≡ opened k → ⊥
 not-opened p = not-idle (sym p)
@@ -261,16 +235,16 @@ module _ {plan : Plan} (sound : SoundPlan plan) where
         quanta = t .more-quanta;
         current = λ k p.
             let none-yet = opened-with p in
-            let room-more = mul-suc (plan .quantum-length) (s .begun) in
+            let room-more = mul-suc (plan .terms .quantum-length) (s .begun) in
             record {
               within = omega arith;
-              unclosed = λ f. omega (arith, sound .timed);
+              unclosed = λ f. omega (arith, sound .terms .timed);
               granted = omega (arith, grant-allotment g s, t .wanted);
               usage-so-far = omega arith;
               room = omega (arith, m .cycles-at-most);
             };
         usage-at-most = omega arith;
-        cycles-at-most = omega (arith, m .cycles-at-most, mul-suc (plan .quantum-length) (s .begun));
+        cycles-at-most = omega (arith, m .cycles-at-most, mul-suc (plan .terms .quantum-length) (s .begun));
         successful = m .successful;
       }
 
@@ -279,12 +253,13 @@ module _ {plan : Plan} (sound : SoundPlan plan) where
       tick-cases plan choices s (Measured plan)
       (λ c. unfold ticked closed in
       record {
-        wanted = desire-at-most plan (s .desire) (efficient-now plan (ticked plan choices s)) (satisfied-now (ticked plan choices s)) (m .wanted);
+        wanted = desire-at-most (plan .terms) (s .desire) (efficient-now plan (ticked plan choices s))
+            (satisfied-now (ticked plan choices s)) (m .wanted);
         deques-at-most = bound;
         quanta = m .quanta;
         current = λ k p. absurd (not-opened p);
         usage-at-most = omega (arith, used, o .unclosed (t .unfinished), o .usage-so-far, few);
-        cycles-at-most = omega (arith, spent, o .unclosed (t .unfinished), o .room, few);
+        cycles-at-most = omega (arith, more, o .unclosed (t .unfinished), o .room, few);
         successful = succeeded;
       })
       (λ c. unfold ticked in
@@ -300,10 +275,10 @@ module _ {plan : Plan} (sound : SoundPlan plan) where
               unclosed = λ f. omega (arith, not-yet c f);
               granted = omega (arith, same-allotment, o .granted);
               usage-so-far = omega (arith, used, o .usage-so-far, few);
-              room = omega (arith, spent, o .room, few);
+              room = omega (arith, more, o .room, few);
             };
         usage-at-most = omega (arith, used, o .unclosed (t .unfinished), o .usage-so-far, few);
-        cycles-at-most = omega (arith, spent, o .unclosed (t .unfinished), o .room, few);
+        cycles-at-most = omega (arith, more, o .unclosed (t .unfinished), o .room, few);
         successful = succeeded;
       })
     where
@@ -314,7 +289,7 @@ module _ {plan : Plan} (sound : SoundPlan plan) where
       k = ticks-of (s .quantum)
 
       after : Execution
-      after = cycles plan 0 choices e
+      after = cycles (plan .graph) 0 choices e
 
       o : OpenQuantum plan s k
       o = m .current k (t .open-quantum)
@@ -322,64 +297,56 @@ module _ {plan : Plan} (sound : SoundPlan plan) where
       fits : 0 + length choices ≤ length (e .deques)
       fits = omega (arith, t .one-each)
 
-      few : length (cycles-made plan 0 choices e) ≤ most-workers
-      few = omega (arith, made-at-most plan choices 0 e, t .one-each, m .deques-at-most .workers)
+      few : length (cycles-made (plan .graph) 0 choices e) ≤ most-workers
+      few = omega (arith, made-at-most (plan .graph) choices 0 e, t .one-each, m .deques-at-most .workers)
 
-      used : after .counts .usage ≤ e .counts .usage + length (cycles-made plan 0 choices e)
-      used = omega (arith, cycles-counted plan 0 choices e fits .nonsteal-usage, all-kinds (cycles-made plan 0 choices e))
+      used : after .counts .usage ≤ e .counts .usage + length (cycles-made (plan .graph) 0 choices e)
+      used = omega (arith, cycles-counted (plan .graph) 0 choices e fits .nonsteal-usage, all-kinds (cycles-made (plan .graph) 0 choices e))
 
-      spent : after .counts .works .work + after .counts .mugs .mug + after .counts .steals .steal
-          ≡ e .counts .works .work + e .counts .mugs .mug + e .counts .steals .steal + length (cycles-made plan 0 choices e)
-      spent =
-          let c = cycles-counted plan 0 choices e fits in
-          omega (arith, c .work, c .mug, c .steal, all-kinds (cycles-made plan 0 choices e))
+      more : all-counted (after .counts) ≡ all-counted (e .counts) + length (cycles-made (plan .graph) 0 choices e)
+      more =
+          let c = cycles-counted (plan .graph) 0 choices e fits in
+          omega (arith, c .work, c .mug, c .steal, all-kinds (cycles-made (plan .graph) 0 choices e))
 
       succeeded : after .counts .successes ≤ after .counts .steals .steal
       succeeded =
-          let c = cycles-counted plan 0 choices e fits in
-          omega (arith, c .success, c .steal, successes-are-steals (cycles-made plan 0 choices e), m .successful)
+          let c = cycles-counted (plan .graph) 0 choices e fits in
+          omega (arith, c .success, c .steal, successes-are-steals (cycles-made (plan .graph) 0 choices e), m .successful)
 
       bound : Bounded most-workers after
-      bound = cycles-bounded plan (m .deques-at-most) 0 choices fits
+      bound = cycles-bounded (plan .graph) (m .deques-at-most) 0 choices fits
 
       same-allotment : length (after .deques) ≡ length (e .deques)
-      same-allotment = cycles-allotment plan choices 0 e fits
+      same-allotment = cycles-allotment (plan .graph) choices 0 e fits
 
-      not-yet : closes plan (ticked plan choices s) ≡ false → finished after ≡ false → suc k ≡ plan .quantum-length → ⊥
-      not-yet c f = eqb-false (suc k) (plan .quantum-length) (go (finished after) f (unfold closes ticked in c))
+      not-yet : closes plan (ticked plan choices s) ≡ false → finished after ≡ false → suc k ≡ plan .terms .quantum-length → ⊥
+      not-yet c f = eqb-false (suc k) (plan .terms .quantum-length) (go (finished after) f (unfold closes ticked in c))
         where
-          go : (b : Bool) → b ≡ false → (not b && eqb (suc k) (plan .quantum-length)) ≡ false → eqb (suc k) (plan .quantum-length) ≡ false
+          go : (b : Bool) → b ≡ false → (not b && eqb (suc k) (plan .terms .quantum-length)) ≡ false →
+              eqb (suc k) (plan .terms .quantum-length) ≡ false
           go false p q = q
           go true p q = absurd (true-is-not-false refl p)
 
-  record Kept (h : History) : Type 0 where
-    place : Arranged plan (h .state)
-    size : Measured plan (h .state)
-
   pub measured : (calls : List Call) → Measured plan (run plan calls .state)
+  unfolding beginning history-grant history-tick
   measured calls =
-      run-keeps plan Kept
-      (unfold beginning in record { place = fresh-arranged sound; size = fresh-measured })
-      (λ g h t q. unfold history-grant in
-      record { place = grant-arranged sound (h .state) (q .place) g; size = grant-measured (q .place) (q .size) g t })
-      (λ choices h t q. unfold history-tick in
-      record { place = tick-arranged sound (h .state) (q .place) choices t; size = tick-measured (q .size) choices t })
+      run-keeps plan (λ h. Measured plan (h .state))
+      fresh-measured
+      (λ done g t m. grant-measured (arranged sound done) m g t)
+      (λ done choices t m. tick-measured m choices t)
       calls
-      .size
 
 -- ---- in numbers
 
-pub counts-fit-of : {plan : Plan} {s : State} → plan .quantum-length ≤ 65535 → tasks plan ≤ 1024 → Arranged plan s → Measured plan s → CountsFit s
-counts-fit-of {plan} {s} short small a m =
+pub counts-fit : {plan : Plan} → SoundPlan plan → plan .terms .quantum-length ≤ longest-quantum → tasks (plan .graph) ≤ most-tasks →
+    (calls : List Call) → CountsFit (run plan calls .state)
+counts-fit sound short small calls =
+    let m = measured sound calls in
     let product = mul-le-mul short (m .quanta) in
     record {
-      work = omega (arith, work-at-most a);
+      work = omega (arith, work-at-most (arranged sound calls));
       usage = omega (arith, m .usage-at-most);
       all-cycles = omega (arith, m .cycles-at-most);
       successes = omega (arith, m .cycles-at-most, m .successful);
       begun = m .quanta;
     }
-
-pub counts-fit : {plan : Plan} → SoundPlan plan → plan .quantum-length ≤ 65535 → tasks plan ≤ 1024 → (calls : List Call) →
-    CountsFit (run plan calls .state)
-counts-fit sound short small calls = counts-fit-of short small (arranged sound calls) (measured sound calls)

@@ -1,25 +1,26 @@
 -- The proofs, by topic. Theorems has every law of a history on one page: a stranger reads it first.
 -- Lists, Readiness, Awaiting: lists and flags, when a task is ready, and how many predecessors it still awaits.
 -- Cycles, Placement, Bounds, Grants: what a worker's cycle, a tick's cycles and a grant keep.
--- Steps, Runs: accepted calls, and how a property is carried through a list of calls. Histories: where the tasks stand and how large the
+-- Accepted, Runs: accepted calls, and how a property is carried through a list of calls. Histories: where the tasks stand and how large the
 -- counts are after any calls. Progress: some worker works or mugs. Order: each task once and in order. Meaning: what the counts count.
--- Counting: what a tick and a grant do to the counts. Powers: the open quantum, and what a quantum's end does to the desire. Tops: the
--- table of top desires, and that the desire stops there.
+-- Counting: what a tick's cycles spend. Ladder: what is used of the desires, and that the powers of R have it. Powers: the open quantum,
+-- and what a quantum's end does to the desire. Tops: the table of top desires, and that the desire stops there.
 -- PairingLaw: the partners of the inefficient quanta. MugLimitLaw: the balance that bounds the mugs. Carried: these in one induction.
-pub mod Lists
+pub mod Deques
 pub mod Readiness
 pub mod Awaiting
 pub mod Cycles
 pub mod Placement
 pub mod Bounds
-pub mod Steps
+pub mod Accepted
+pub mod Runs
 pub mod Meaning
+pub mod Counting
 pub mod Grants
 pub mod Histories
 pub mod Progress
 pub mod Order
-pub mod Runs
-pub mod Counting
+pub mod Ladder
 pub mod Powers
 pub mod Tops
 pub mod PairingLaw

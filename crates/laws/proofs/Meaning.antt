@@ -1,5 +1,5 @@
--- The counts mean what they say: work, mug, steal and successful steals are the numbers of those cycles among the cycles made, and the nonsteal
--- usage grows in a tick by the work and mug cycles of that tick and is 0 after a grant.
+-- The counts mean what they say: work, mug, steal and successful steals are the numbers of those cycles among the cycles made, and the
+-- nonsteal usage grows in a tick by the work and mug cycles of that tick and is 0 after a grant.
 -- Assumes nothing.
 use mathlib.Core.Path.{_≡_, refl}
 use mathlib.Core.Bool.{Bool, true, false, cond}
@@ -7,12 +7,15 @@ use mathlib.Core.List.{List, [], _∷_, _++_}
 use Prim.Native.Nat.{ℕ, suc, _+_, _≤_}
 use native.Mathlib.Omega.{arith}
 use lib.ListN.{length}
-use Rattle.model.specs.Plan.{Plan}
-use Rattle.model.specs.Machine.{Counts, Execution, State, Cycle, works-on, mugs-deque, steals-from, steals-nothing, work-cycle, mug-cycle, successful-steal, failed-steal, cycle, cycle-of, cycles, cycles-made, finished, fresh, grant, tick, Call}
+use Rattle.model.specs.Plan.{Plan, Graph}
+use Rattle.model.specs.Machine.{Counts, Execution, State, Cycle, works-on, mugs-deque, steals-from, steals-nothing, work-cycle, mug-cycle}
+use Rattle.model.specs.Machine.{successful-steal, failed-steal, cycle, cycle-of, cycles, cycles-made, finished, fresh, grant, tick, Call}
 use Rattle.model.specs.History.{History, beginning, history-grant, history-tick, history-step, run}
-use Rattle.laws.specs.Meaning.{is-work, is-mug, is-steal, is-success, count-of, works-in, mugs-in, steals-in, successes-in, Counted, CountsMean, UsageMeans}
+use Rattle.laws.specs.Meaning.{is-work, is-mug, is-steal, is-success, count-of, works-in, mugs-in, steals-in, successes-in, Counted}
+use Rattle.laws.specs.Meaning.{CountsMean, UsageMeans}
 use Rattle.laws.proofs.Cycles.{cycle-cases, cycles-made-keep}
-use Rattle.laws.proofs.Steps.{TickAccepted, tick-execution, tick-accepted, run-keeps}
+use Rattle.laws.proofs.Accepted.{TickAccepted, tick-execution, tick-accepted}
+use Rattle.laws.proofs.Runs.{run-keeps}
 
 pub count-of-append : (kind : Cycle → ℕ) (xs ys : List Cycle) → count-of kind (xs ++ ys) ≡ count-of kind xs + count-of kind ys
 unfolding count-of
@@ -37,23 +40,23 @@ successes-are-steals (steals-from v ∷ made) = omega (arith, successes-are-stea
 successes-are-steals (steals-nothing ∷ made) = omega (arith, successes-are-steals made)
 
 -- a worker makes at most one cycle in a tick
-pub made-at-most : (plan : Plan) (choices : List ℕ) (w : ℕ) (e : Execution) → length (cycles-made plan w choices e) ≤ length choices
+pub made-at-most : (graph : Graph) (choices : List ℕ) (w : ℕ) (e : Execution) → length (cycles-made graph w choices e) ≤ length choices
 unfolding cycles-made
-made-at-most plan [] w e = omega arith
-made-at-most plan (choice ∷ choices) w e = go (finished e) (made-at-most plan choices (suc w) (cycle plan w choice e))
+made-at-most graph [] w e = omega arith
+made-at-most graph (choice ∷ choices) w e = go (finished e) (made-at-most graph choices (suc w) (cycle graph w choice e))
   where
-    go : (b : Bool) → length (cycles-made plan (suc w) choices (cycle plan w choice e)) ≤ length choices →
-        length (cond b [] (cycle-of w choice e ∷ cycles-made plan (suc w) choices (cycle plan w choice e))) ≤ suc (length choices)
+    go : (b : Bool) → length (cycles-made graph (suc w) choices (cycle graph w choice e)) ≤ length choices →
+        length (cond b [] (cycle-of w choice e ∷ cycles-made graph (suc w) choices (cycle graph w choice e))) ≤ suc (length choices)
     go true h = omega arith
     go false h = omega arith
 
 -- ---- a cycle and a tick's cycles
 
-pub cycle-counted : (plan : Plan) (w choice : ℕ) (e : Execution) →
-    Counted (cycle-of w choice e ∷ []) (e .counts) (cycle plan w choice e .counts)
+pub cycle-counted : (graph : Graph) (w choice : ℕ) (e : Execution) →
+    Counted (cycle-of w choice e ∷ []) (e .counts) (cycle graph w choice e .counts)
 unfolding count-of work-cycle mug-cycle successful-steal failed-steal
-cycle-counted plan w choice e =
-    cycle-cases plan w choice e
+cycle-counted graph w choice e =
+    cycle-cases graph w choice e
     (λ c after. Counted (c ∷ []) (e .counts) (after .counts))
     (record {
       working = λ t rest own. omega arith;
@@ -79,12 +82,12 @@ counted-none : (before : Counts) → Counted [] before before
 unfolding count-of
 counted-none before = omega arith
 
-pub cycles-counted : (plan : Plan) (w : ℕ) (choices : List ℕ) (e : Execution) → w + length choices ≤ length (e .deques) →
-    Counted (cycles-made plan w choices e) (e .counts) (cycles plan w choices e .counts)
-cycles-counted plan w choices e h =
-    cycles-made-keep plan
+pub cycles-counted : (graph : Graph) (w : ℕ) (choices : List ℕ) (e : Execution) → w + length choices ≤ length (e .deques) →
+    Counted (cycles-made graph w choices e) (e .counts) (cycles graph w choices e .counts)
+cycles-counted graph w choices e h =
+    cycles-made-keep graph
     (λ made after. Counted made (e .counts) (after .counts))
-    (λ made v choice before l f p. counted-then p (cycle-counted plan v choice before))
+    (λ made v choice before l f p. counted-then p (cycle-counted graph v choice before))
     choices
     []
     w
@@ -95,9 +98,9 @@ cycles-counted plan w choices e h =
 -- ---- a tick, a grant, a history
 
 pub tick-counted : (plan : Plan) (choices : List ℕ) (s : State) → TickAccepted choices s →
-    Counted (cycles-made plan 0 choices (s .execution)) (s .execution .counts) (tick plan choices s .execution .counts)
+    Counted (cycles-made (plan .graph) 0 choices (s .execution)) (s .execution .counts) (tick plan choices s .execution .counts)
 tick-counted plan choices s a =
-    rw (tick-execution plan choices s) (cycles-counted plan 0 choices (s .execution) (omega (arith, a .one-each)))
+    rw (tick-execution plan choices s) (cycles-counted (plan .graph) 0 choices (s .execution) (omega (arith, a .one-each)))
 
 pub grant-usage : (g : ℕ) (s : State) → grant g s .execution .counts .usage ≡ 0
 unfolding grant
@@ -108,9 +111,10 @@ unfolding beginning fresh history-grant history-tick grant count-of
 counts-mean plan calls =
     run-keeps plan CountsMean
     (record { work = refl; mug = refl; steal = refl; success = refl })
-    (λ g h a p. record { work = p .work; mug = p .mug; steal = p .steal; success = p .success })
-    (λ choices h a p.
-    let more = cycles-made plan 0 choices (h .state .execution) in
+    (λ done g a p. record { work = p .work; mug = p .mug; steal = p .steal; success = p .success })
+    (λ done choices a p.
+    let h = run plan done in
+    let more = cycles-made (plan .graph) 0 choices (h .state .execution) in
     let c = tick-counted plan choices (h .state) a in
     record {
       work = omega (arith, count-of-append is-work (h .made) more, p .work, c .work);

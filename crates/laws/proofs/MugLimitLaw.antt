@@ -1,20 +1,21 @@
--- The mug limit, by a balance that every call keeps. Each mug cycle and each muggable deque comes from a worker that was withdrawn, so it is
--- covered by the allotments of the closed quanta. These, with a reserve for the inefficient quanta to come, are paid by the usage of the
+-- The mug limit, by a balance that every call keeps. Each mug cycle and each muggable deque comes from a worker that was withdrawn, so it
+-- is covered by the allotments of the closed quanta. These, with a reserve for the inefficient quanta to come, are paid by the usage of the
 -- closed quanta: an efficient quantum pays for itself, and one that raises the desire pays the reserve of the new power besides; the
 -- reserve of a power pays for the inefficient quantum that goes down from it.
 -- Assumes nothing but how a quantum may end (QuantumEnd of Powers).
-use mathlib.Core.Path.{_≡_, refl, sym, ap, _∙_}
-use mathlib.Core.Bool.{true, false}
+use mathlib.Core.Path.{_≡_, ap}
 use mathlib.Core.List.{List, [], _∷_, _++_}
-use Prim.Native.Nat.{ℕ, zero, suc, _+_, _-_, _*_, _^_, _≤_, _<_}
+use Prim.Native.Nat.{ℕ, zero, suc, _+_, _-_, _*_, _≤_, _<_}
 use native.Mathlib.Omega.{arith}
-use native.Mathlib.Nat.{mul-zero, mul-add, mul-one, mul-comm, mul-assoc, mul-sub, mul-right-comm, mul-le-mul-left, mul-le-mul-right, pow-suc}
+use native.Mathlib.Nat.{mul-zero, mul-add, mul-one, mul-comm, mul-assoc, mul-sub, mul-right-comm, mul-le-mul-left, mul-le-mul-right}
 use lib.ListN.{length}
-use Rattle.model.specs.Plan.{Plan}
-use Rattle.model.specs.Machine.{State, Quantum, idle, opened, allotment, no-quantum-open, fresh, grant, ticked, closed}
-use Rattle.model.specs.History.{ClosedQuantum, History}
+use Rattle.model.specs.Plan.{Plan, Terms}
+use Rattle.model.specs.Machine.{State, Quantum, idle, opened, allotment, fresh, grant, ticked, closed}
+use Rattle.model.specs.History.{ClosedQuantum, History, work-count, mug-count}
 use Rattle.model.specs.Statements.{MugLimit, MugBound, ending}
-use Rattle.laws.proofs.Counting.{spent, cycles-counted, granted}
+use Rattle.laws.proofs.Grants.{withdrawn-at-most}
+use Rattle.laws.proofs.Counting.{spent, cycles-spend}
+use Rattle.laws.proofs.Ladder.{Ladder, power-ladder}
 use Rattle.laws.proofs.Powers.{QuantumEnd, lowers, raises, stays}
 
 -- ---- the balance
@@ -24,10 +25,17 @@ unfoldable pub granted-sum : List ClosedQuantum → ℕ
 granted-sum [] = 0
 granted-sum (q ∷ quanta) = q .granted + granted-sum quanta
 
--- what is set aside at the desire R^k: the desires from R^1 to R^k
-unfoldable pub reserve : ℕ → ℕ → ℕ
-reserve r zero = 0
-reserve r (suc k) = reserve r k + r ^ suc k
+-- what is set aside at the power k of a ladder: the desires of the powers 1 to k
+unfoldable pub reserve : {terms : Terms} → Ladder terms → ℕ → ℕ
+reserve ladder zero = 0
+reserve ladder (suc k) = reserve ladder k + ladder .count (suc k)
+
+-- what a worker of a closed quantum costs, and what a work or mug cycle pays
+abbrev pub cost : {terms : Terms} → Ladder terms → ℕ
+cost {terms} ladder = terms .utilization * terms .quantum-length * ladder .parts
+
+abbrev pub pay : {terms : Terms} → Ladder terms → ℕ
+pay ladder = 100 * (ladder .parts + ladder .gain)
 
 -- how many workers a coming grant may withdraw
 abbrev pub coming : Quantum → ℕ → ℕ
@@ -39,12 +47,11 @@ abbrev pub unsettled : Quantum → ℕ → ℕ
 unsettled idle usage = 0
 unsettled (opened t) usage = usage
 
-pub record Balance (plan : Plan) (s : State) (quanta : List ClosedQuantum) (k : ℕ) : Type 0 where
+pub record Balance {terms : Terms} (ladder : Ladder terms) (s : State) (quanta : List ClosedQuantum) (k : ℕ) : Type 0 where
   pub covered : s .execution .counts .mugs .mug + length (s .execution .muggable) + coming (s .quantum) (allotment s) ≤ granted-sum quanta
   pub paid :
-      plan .utilization * plan .quantum-length * (granted-sum quanta + reserve (plan .responsiveness) k)
-      + 100 * (1 + plan .responsiveness) * unsettled (s .quantum) (s .execution .counts .usage)
-      ≤ 100 * (1 + plan .responsiveness) * spent (s .execution)
+      cost ladder * (granted-sum quanta + reserve ladder k) + pay ladder * unsettled (s .quantum) (s .execution .counts .usage)
+      ≤ pay ladder * spent (s .execution)
 
 pub granted-sum-snoc : (quanta : List ClosedQuantum) (q : ClosedQuantum) → granted-sum (quanta ++ q ∷ []) ≡ granted-sum quanta + q .granted
 unfolding granted-sum
@@ -58,115 +65,123 @@ paid-onward : (price paid u u′ n n′ : ℕ) → u′ + n ≡ u + n′ → pai
 paid-onward price paid u u′ n n′ same before =
     omega (arith, mul-add price u′ n, mul-add price u n′, ap (λ x. price * x) same)
 
--- the three ends. p: D × L; r: R; sum, rest: the allotments and the reserve before; g: the allotment; u: the usage; n: all usage so far
-module _ (p r sum rest g u n : ℕ) where
-  paid-lower : (w : ℕ) → g ≤ w → p * (sum + (rest + w)) + 100 * (1 + r) * u ≤ 100 * (1 + r) * n →
-      p * (sum + g + rest) ≤ 100 * (1 + r) * n
+-- the three ends. p: D × L; d, r: parts and gain; sum, rest: the allotments and the reserve before; g: the allotment; u: the usage; n: all
+-- usage so far
+module _ (p d r sum rest g u n : ℕ) where
+  paid-lower : (w : ℕ) → g ≤ w → p * d * (sum + (rest + w)) + 100 * (d + r) * u ≤ 100 * (d + r) * n →
+      p * d * (sum + g + rest) ≤ 100 * (d + r) * n
   paid-lower w few before =
-      let less : p * (sum + g + rest) ≤ p * (sum + (rest + w)) = mul-le-mul-left p (omega arith) in
+      let less : p * d * (sum + g + rest) ≤ p * d * (sum + (rest + w)) = mul-le-mul-left (p * d) (omega arith) in
       omega arith
 
-  pays : p * g ≤ 100 * u → p * (g * (1 + r)) ≤ 100 * (1 + r) * u
+  pays : p * g ≤ 100 * u → p * (g * (d + r)) ≤ 100 * (d + r) * u
   pays enough =
-      let more : p * g * (1 + r) ≤ 100 * u * (1 + r) = mul-le-mul-right (1 + r) enough in
-      omega (arith, mul-assoc p g (1 + r), mul-right-comm 100 u (1 + r))
+      let more : p * g * (d + r) ≤ 100 * u * (d + r) = mul-le-mul-right (d + r) enough in
+      omega (arith, mul-assoc p g (d + r), mul-right-comm 100 u (d + r))
 
-  paid-raise : p * g ≤ 100 * u → p * (sum + rest) + 100 * (1 + r) * u ≤ 100 * (1 + r) * n →
-      p * (sum + g + (rest + g * r)) ≤ 100 * (1 + r) * n
-  paid-raise enough before =
-      let shared : g * (1 + r) ≡ g + g * r = mul-add g 1 r ∙ ap (λ x. x + g * r) (mul-one g) in
-      let split : sum + g + (rest + g * r) ≡ sum + rest + g * (1 + r) = omega arith in
-      rw split (omega (arith, mul-add p (sum + rest) (g * (1 + r)), pays enough))
+  -- the next desire w is at most r / d times g
+  paid-raise : (w : ℕ) → w * d ≤ g * r → p * g ≤ 100 * u → p * d * (sum + rest) + 100 * (d + r) * u ≤ 100 * (d + r) * n →
+      p * d * (sum + g + (rest + w)) ≤ 100 * (d + r) * n
+  paid-raise w cheap enough before =
+      let share : d * (g + w) ≤ g * (d + r) = omega (arith, mul-add d g w, mul-add g d r, mul-comm d g, mul-comm d w) in
+      let more : p * (d * (g + w)) ≤ p * (g * (d + r)) = mul-le-mul-left p share in
+      let split : sum + g + (rest + w) ≡ sum + rest + (g + w) = omega arith in
+      rw split (omega (arith, mul-add (p * d) (sum + rest) (g + w), mul-assoc p d (g + w), pays enough))
 
-  paid-stay : p * g ≤ 100 * u → p * (sum + rest) + 100 * (1 + r) * u ≤ 100 * (1 + r) * n → p * (sum + g + rest) ≤ 100 * (1 + r) * n
+  paid-stay : p * g ≤ 100 * u → p * d * (sum + rest) + 100 * (d + r) * u ≤ 100 * (d + r) * n → p * d * (sum + g + rest) ≤ 100 * (d + r) * n
   paid-stay enough before =
-      let less : p * (sum + g + rest) ≤ p * (sum + g + (rest + g * r)) = mul-le-mul-left p (omega arith) in
-      omega (arith, paid-raise enough before)
+      let less : p * d * (sum + g + rest) ≤ p * d * (sum + g + (rest + 0)) = mul-le-mul-left (p * d) (omega arith) in
+      omega (arith, paid-raise 0 (omega arith) enough before)
 
 -- any end: the quantum q of the usage u joins the closed ones
-paid-end : (plan : Plan) (q : ClosedQuantum) (sum u n k after : ℕ) → q .granted ≤ plan .responsiveness ^ k →
-    q .wanted ≡ plan .responsiveness ^ k → QuantumEnd plan q u k after →
-    plan .utilization * plan .quantum-length * (sum + reserve (plan .responsiveness) k) + 100 * (1 + plan .responsiveness) * u
-    ≤ 100 * (1 + plan .responsiveness) * n →
-    plan .utilization * plan .quantum-length * (sum + q .granted + reserve (plan .responsiveness) after)
-    ≤ 100 * (1 + plan .responsiveness) * n
+paid-end : {terms : Terms} (ladder : Ladder terms) (q : ClosedQuantum) (sum u n k after : ℕ) → q .granted ≤ q .wanted →
+    q .wanted ≡ ladder .count k → QuantumEnd terms q u k after → cost ladder * (sum + reserve ladder k) + pay ladder * u ≤ pay ladder * n →
+    cost ladder * (sum + q .granted + reserve ladder after) ≤ pay ladder * n
 unfolding reserve
-paid-end plan q sum u n k after few power (lowers {k = j} inefficient) before =
-    paid-lower _ (plan .responsiveness) sum (reserve (plan .responsiveness) j) (q .granted) u n _ few before
-paid-end plan q sum u n k after few power (raises {k = j} is-efficient is-satisfied all enough) before =
-    let next : plan .responsiveness ^ suc j ≡ q .granted * plan .responsiveness = rw (pow-suc, all, power) in
-    rw next (paid-raise _ (plan .responsiveness) sum (reserve (plan .responsiveness) j) (q .granted) u n enough before)
-paid-end plan q sum u n k after few power (stays {k = j} is-efficient enough) before =
-    paid-stay _ (plan .responsiveness) sum (reserve (plan .responsiveness) j) (q .granted) u n enough before
+paid-end ladder q sum u n k after few is-count (lowers {k = j} inefficient more-than-one) before =
+    paid-lower _ (ladder .parts) (ladder .gain) sum (reserve ladder j) (q .granted) u n _ (omega arith) before
+paid-end ladder q sum u n k after few is-count (raises {k = j} is-efficient is-satisfied all enough) before =
+    let cheap : ladder .count (suc j) * ladder .parts ≤ q .granted * ladder .gain = rw (all, is-count) (ladder .costs j) in
+    paid-raise _ (ladder .parts) (ladder .gain) sum (reserve ladder j) (q .granted) u n _ cheap enough before
+paid-end ladder q sum u n k after few is-count (stays {k = j} is-efficient enough) before =
+    paid-stay _ (ladder .parts) (ladder .gain) sum (reserve ladder j) (q .granted) u n enough before
 
 -- ---- every move keeps it
 
-pub balance-start : (plan : Plan) → Balance plan (fresh plan) [] 0
+pub balance-start : (plan : Plan) (ladder : Ladder (plan .terms)) → Balance ladder (fresh plan) [] 0
 unfolding fresh granted-sum reserve
-balance-start plan =
-    record {
-      covered = omega arith;
-      paid = omega (arith, mul-zero (plan .utilization * plan .quantum-length), mul-zero (100 * (1 + plan .responsiveness)));
-    }
+balance-start plan ladder = record { covered = omega arith; paid = omega (arith, mul-zero (cost ladder), mul-zero (pay ladder)) }
 
-none-coming : (q : Quantum) (workers : ℕ) → no-quantum-open q ≡ false → coming q workers ≡ 0
-none-coming idle workers is-open = cc
-none-coming (opened t) workers is-open = refl
+module _ (plan : Plan) (ladder : Ladder (plan .terms)) (s : State) (quanta : List ClosedQuantum) (k : ℕ) (b : Balance ladder s quanta k)
+  where
+    -- a grant withdraws no more workers than there were
+    pub balance-granted : (g : ℕ) → s .quantum ≡ idle → Balance ladder (grant g s) quanta k
+    unfolding grant
+    balance-granted g is-idle =
+        let may-go = ap (λ q. coming q (allotment s)) is-idle in
+        record {
+          covered = omega (arith, b .covered, withdrawn-at-most g s, may-go);
+          paid = omega (arith, b .paid, mul-zero (pay ladder));
+        }
 
-all-unsettled : (q : Quantum) (usage : ℕ) → no-quantum-open q ≡ false → unsettled q usage ≡ usage
-all-unsettled idle usage is-open = cc
-all-unsettled (opened t) usage is-open = refl
+    -- while a quantum is open no worker may go, and its usage is not settled
+    module _ (t : ℕ) (is-open : s .quantum ≡ opened t) where
+      none-goes : coming (s .quantum) (allotment s) ≡ 0
+      none-goes = ap (λ q. coming q (allotment s)) is-open
 
-all-coming : (q : Quantum) (workers : ℕ) → no-quantum-open q ≡ true → coming q workers ≡ workers
-all-coming idle workers is-idle = refl
-all-coming (opened t) workers is-idle = cc
+      open-paid : cost ladder * (granted-sum quanta + reserve ladder k) + pay ladder * s .execution .counts .usage
+          ≤ pay ladder * spent (s .execution)
+      open-paid = rw (ap (λ q. unsettled q (s .execution .counts .usage)) is-open) at (b .paid)
 
-module _ (plan : Plan) (s : State) (quanta : List ClosedQuantum) (k : ℕ) (b : Balance plan s quanta k) where
-  -- a grant withdraws no more workers than there were
-  pub balance-granted : (g : ℕ) → no-quantum-open (s .quantum) ≡ true → Balance plan (grant g s) quanta k
-  unfolding grant
-  balance-granted g is-idle =
-      record {
-        covered = omega (arith, b .covered, granted g s .at-most, all-coming (s .quantum) (allotment s) is-idle);
-        paid = omega (arith, b .paid, mul-zero (100 * (1 + plan .responsiveness)));
-      }
+      -- a tick's usage is both unsettled and spent, and a mug cycle takes one muggable deque away
+      pub balance-ticked : (choices : List ℕ) → length choices ≡ allotment s → Balance ladder (ticked plan choices s) quanta k
+      unfolding ticked
+      balance-ticked choices one-each =
+          let counted = cycles-spend (plan .graph) 0 choices (s .execution) (omega arith) in
+          record {
+            covered = omega (arith, b .covered, counted .mugs, none-goes);
+            paid = paid-onward _ _ (s .execution .counts .usage) _ (spent (s .execution)) _ (counted .usage) open-paid;
+          }
 
-  -- a tick's usage is both unsettled and spent, and a mug cycle takes one muggable deque away
-  pub balance-ticked : (choices : List ℕ) → no-quantum-open (s .quantum) ≡ false → Balance plan (ticked plan choices s) quanta k
-  unfolding ticked
-  balance-ticked choices is-open =
-      let counted = cycles-counted plan 0 choices (s .execution) in
-      record {
-        covered = omega (arith, b .covered, counted .mugs, none-coming (s .quantum) (allotment s) is-open);
-        paid = paid-onward _ _ (s .execution .counts .usage) _ (spent (s .execution)) _ (counted .usage) (rw all-unsettled at (b .paid));
-      }
-
-  -- the end settles the quantum's usage and adds its allotment
-  pub balance-closed : (after : ℕ) → no-quantum-open (s .quantum) ≡ false → allotment s ≤ plan .responsiveness ^ k →
-      s .desire ≡ plan .responsiveness ^ k → QuantumEnd plan (ending plan s) (s .execution .counts .usage) k after →
-      Balance plan (closed plan s) (quanta ++ ending plan s ∷ []) after
-  unfolding closed
-  balance-closed after is-open few power end =
-      let before = rw all-unsettled at (b .paid) in
-      let settled = paid-end plan (ending plan s) (granted-sum quanta) _ (spent (s .execution)) k after few power end before in
-      record {
-        covered = omega (arith, b .covered, none-coming (s .quantum) (allotment s) is-open, granted-sum-snoc quanta (ending plan s));
-        paid = rw granted-sum-snoc (omega (arith, settled, mul-zero (100 * (1 + plan .responsiveness))));
-      }
+      -- the end settles the quantum's usage and adds its allotment
+      pub balance-closed : (after : ℕ) → allotment s ≤ s .desire → s .desire ≡ ladder .count k →
+          QuantumEnd (plan .terms) (ending plan s) (s .execution .counts .usage) k after →
+          Balance ladder (closed plan s) (quanta ++ ending plan s ∷ []) after
+      unfolding closed
+      balance-closed after few is-count end =
+          let settled = paid-end ladder (ending plan s) (granted-sum quanta) _ (spent (s .execution)) k after few is-count end open-paid in
+          record {
+            covered = omega (arith, b .covered, none-goes, granted-sum-snoc quanta (ending plan s));
+            paid = rw granted-sum-snoc (omega (arith, settled, mul-zero (pay ladder)));
+          }
 
 -- ---- the limit
 
 -- m mugs, covered by closed allotments that are paid
-limit-of : (m l d sum n price : ℕ) → m ≤ sum → d * l * sum ≤ price * n → m * l * d ≤ price * n
-limit-of m l d sum n price few enough =
-    let less : d * l * m ≤ d * l * sum = mul-le-mul-left (d * l) few in
-    omega (arith, mul-assoc m l d, mul-comm m (l * d), mul-comm l d)
+limit-of : (m l d c sum n price : ℕ) → m ≤ sum → d * l * c * sum ≤ price * n → m * l * d * c ≤ price * n
+limit-of m l d c sum n price few enough =
+    let less : d * l * c * m ≤ d * l * c * sum = mul-le-mul-left (d * l * c) few in
+    let turned : m * l * d * c ≡ d * l * c * m = rw (mul-assoc m l d, mul-comm m (l * d), mul-comm l d, mul-right-comm (d * l) m c) in
+    omega arith
 
-pub mug-limit-of : (plan : Plan) (h : History) (quanta : List ClosedQuantum) (k : ℕ) → Balance plan (h .state) quanta k → MugLimit plan h
-mug-limit-of plan h quanta k b =
-    limit-of _ (plan .quantum-length) (plan .utilization) (granted-sum quanta + reserve (plan .responsiveness) k) _ _
+-- what the balance says of the mugs on any ladder
+pub ladder-limit : {terms : Terms} (ladder : Ladder terms) (h : History) (quanta : List ClosedQuantum) (k : ℕ) →
+    Balance ladder (h .state) quanta k →
+    mug-count h * terms .quantum-length * terms .utilization * ladder .parts ≤ pay ladder * (work-count h + mug-count h)
+ladder-limit {terms} ladder h quanta k b =
+    limit-of _ (terms .quantum-length) (terms .utilization) (ladder .parts) (granted-sum quanta + reserve ladder k) _ _
     (omega (arith, b .covered))
     (omega (arith, b .paid))
+
+-- .. and on that of the powers of R
+pub mug-limit-of : (plan : Plan) (responsive : 2 ≤ plan .terms .responsiveness) (h : History) (quanta : List ClosedQuantum) (k : ℕ) →
+    Balance (power-ladder (plan .terms) responsive) (h .state) quanta k → MugLimit plan h
+mug-limit-of plan responsive h quanta k b =
+    omega (
+      arith,
+      ladder-limit (power-ladder (plan .terms) responsive) h quanta k b,
+      mul-one (mug-count h * plan .terms .quantum-length * plan .terms .utilization),
+    )
 
 -- where L × D > 100 × (1 + R)
 pub mug-bound-of : (plan : Plan) (h : History) → MugLimit plan h → MugBound plan h

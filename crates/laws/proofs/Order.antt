@@ -1,29 +1,34 @@
--- Each task is worked at most once and after all its predecessors, the flags show the tasks of the work order, and a job shows as finished exactly
--- when all tasks are worked. By induction over the cycles: a worker works a task that is ready and unworked.
+-- Each task is worked at most once and after all its predecessors, the flags show the tasks of the work order, and a job shows as finished
+-- exactly when all tasks are worked. By induction over the cycles: a worker works a task that is ready and unworked.
 -- Assumes nothing.
 use mathlib.Core.Path.{_≡_, refl, sym, ap, _∙_}
 use mathlib.Core.Bool.{Bool, true, false, cond, not}
 use mathlib.Core.List.{List, [], _∷_, _++_, append-nil, List·Memᴰ}
-use Prim.Native.Nat.{ℕ, zero, suc, _+_, _≤_, _<_}
+use Prim.Native.Nat.{ℕ, _+_, _≤_, _<_}
 use native.Mathlib.Nat.{not-suc-le-zero}
 use native.Mathlib.Omega.{arith}
 use lib.Dec.{eqb}
 use lib.ListN.{length, getD, set, length-append, List·getD-append}
 use lib.Seq.{getD-set-same, getD-set-other, getD-at}
-use borrow.Author.Tests.{eqb-true, eqb-false, ne-eqb}
+use borrow.Author.Tests.{eqb-true, eqb-false}
 use Rattle.model.specs.Tests.{all-set}
-use Rattle.model.specs.Plan.{Plan, tasks, predecessors}
-use Rattle.model.specs.Machine.{Execution, State, allotment, finished, completed, work-cycle, mug-cycle, successful-steal, failed-steal, Cycle, works-on, mugs-deque, steals-from, steals-nothing, cycle, cycle-of, cycles, cycles-made, fresh, grant, status, Call}
+use Rattle.model.specs.Plan.{Plan, Graph, tasks, predecessors}
+use Rattle.model.specs.Machine.{Execution, State, allotment, finished, completed, work-cycle, mug-cycle, successful-steal, failed-steal}
+use Rattle.model.specs.Machine.{Cycle, works-on, mugs-deque, steals-from, steals-nothing, cycle, cycle-of, cycles, cycles-made, fresh}
+use Rattle.model.specs.Machine.{grant, status, Call}
 use Rattle.model.specs.History.{History, beginning, history-grant, history-tick, tasks-in, work-order, run}
-use Rattle.model.specs.Statements.{SoundPlan, OnceAndInOrder, FinishedExactly}
+use Rattle.model.specs.Statements.{SoundPlan, SoundGraph, OnceAndInOrder, FinishedExactly}
 use Rattle.laws.specs.Invariants.{occurrences, Placed}
-use Rattle.laws.specs.Reached.{Arranged}
-use Rattle.laws.proofs.Lists.{true-is-not-false, occurrences-append, occurs, found, none-set, all-set-at, all-set-from, place-of, place-once}
+use Rattle.lists.proofs.Tests.{one-or-none, is-one}
+use Rattle.lists.proofs.Lists.{none-set, all-set-at, all-set-from, place-of}
+use Rattle.laws.proofs.Deques.{occurrences-append, occurs, found}
+use Rattle.laws.proofs.Deques.{place-once}
 use Rattle.laws.proofs.Readiness.{Waits, is-predecessor, ready-is}
 use Rattle.laws.proofs.Placement.{front-waits, cycle-placed}
 use Rattle.laws.proofs.Cycles.{cycle-cases, cycles-made-keep}
-use Rattle.laws.proofs.Histories.{fresh-arranged, grant-arranged, tick-arranged, arranged, unstarted-cycles, flags-length}
-use Rattle.laws.proofs.Steps.{GrantAccepted, TickAccepted, tick-execution, tick-started, run-keeps}
+use Rattle.laws.proofs.Histories.{arranged, unstarted-cycles, flags-length}
+use Rattle.laws.proofs.Accepted.{TickAccepted, tick-execution}
+use Rattle.laws.proofs.Runs.{run-keeps}
 
 -- ---- the work order
 
@@ -35,15 +40,15 @@ tasks-in-append (mugs-deque d ∷ xs) ys = tasks-in-append xs ys
 tasks-in-append (steals-from v ∷ xs) ys = tasks-in-append xs ys
 tasks-in-append (steals-nothing ∷ xs) ys = tasks-in-append xs ys
 
-record InOrder (plan : Plan) (order : List ℕ) (worked : List Bool) : Type 0 where
+record InOrder (graph : Graph) (order : List ℕ) (worked : List Bool) : Type 0 where
   -- a worked task stands in the order once, and no other does
   flagged : (t : ℕ) → occurrences t order ≡ cond (getD worked t false) 1 0
-  after-all : (i p : ℕ) → i < length order → List·Memᴰ p (predecessors plan (getD order i 0)) → (j : ℕ) × (j < i) × (getD order j 0 ≡ p)
+  after-all : (i p : ℕ) → i < length order → List·Memᴰ p (predecessors graph (getD order i 0)) → (j : ℕ) × (j < i) × (getD order j 0 ≡ p)
 
 -- one ready and unworked task more
-one-more : {plan : Plan} {order : List ℕ} {worked : List Bool} (t : ℕ) → t < length worked → Waits plan worked t → InOrder plan order worked →
-    InOrder plan (order ++ (t ∷ [])) (completed t worked)
-one-more {plan} {order} {worked} t l front o = record { flagged = flags; after-all = places }
+one-more : {graph : Graph} {order : List ℕ} {worked : List Bool} (t : ℕ) → t < length worked → Waits graph worked t →
+    InOrder graph order worked → InOrder graph (order ++ (t ∷ [])) (completed t worked)
+one-more {graph} {order} {worked} t l front o = record { flagged = flags; after-all = places }
   where
     flags : (x : ℕ) → occurrences x (order ++ (t ∷ [])) ≡ cond (getD (set worked t true) x false) 1 0
     flags x = occurrences-append x order (t ∷ []) ∙ go (eqb x t) refl
@@ -59,7 +64,7 @@ one-more {plan} {order} {worked} t l front o = record { flagged = flags; after-a
     before : (i : ℕ) → i < length order → getD (order ++ (t ∷ [])) i 0 ≡ getD order i 0
     before i h = List·getD-append order (t ∷ []) 0 i h
 
-    places : (i p : ℕ) → i < length (order ++ (t ∷ [])) → List·Memᴰ p (predecessors plan (getD (order ++ (t ∷ [])) i 0)) →
+    places : (i p : ℕ) → i < length (order ++ (t ∷ [])) → List·Memᴰ p (predecessors graph (getD (order ++ (t ∷ [])) i 0)) →
         (j : ℕ) × (j < i) × (getD (order ++ (t ∷ [])) j 0 ≡ p)
     places i p h m = go (eqb i (length order)) refl
       where
@@ -70,8 +75,8 @@ one-more {plan} {order} {worked} t l front o = record { flagged = flags; after-a
         go true e =
             let last = eqb-true i (length order) e in
             let is-t = getD-at order t [] 0 i (sym last) in
-            let r = is-predecessor plan t p (rw is-t at m) in
-            let done = ready-is plan worked t (front .is-ready) p (r .0) (r .1) in
+            let r = is-predecessor graph t p (rw is-t at m) in
+            let done = ready-is graph worked t (front .is-ready) p (r .0) (r .1) in
             let once = o .flagged p ∙ ap (λ (b : Bool). cond {A = ℕ} b 1 0) done in
             let place = place-of p order (found p order (omega arith)) in
             (place .0, omega (arith, place .1), before (place .0) (place .1) ∙ place .2)
@@ -82,12 +87,12 @@ one-more {plan} {order} {worked} t l front o = record { flagged = flags; after-a
 
 -- ---- a cycle, a tick
 
-module _ {plan : Plan} (sound : SoundPlan plan) where
-  cycle-in-order : (made : List Cycle) (w choice : ℕ) (e : Execution) → Placed plan e → InOrder plan (tasks-in made) (e .worked) →
-      InOrder plan (tasks-in (made ++ (cycle-of w choice e ∷ []))) (cycle plan w choice e .worked)
+module _ {graph : Graph} (sound : SoundGraph graph) where
+  cycle-in-order : (made : List Cycle) (w choice : ℕ) (e : Execution) → Placed graph e → InOrder graph (tasks-in made) (e .worked) →
+      InOrder graph (tasks-in (made ++ (cycle-of w choice e ∷ []))) (cycle graph w choice e .worked)
   cycle-in-order made w choice e placed o =
-      cycle-cases plan w choice e
-      (λ c after. InOrder plan (tasks-in (made ++ (c ∷ []))) (after .worked))
+      cycle-cases graph w choice e
+      (λ c after. InOrder graph (tasks-in (made ++ (c ∷ []))) (after .worked))
       (unfold work-cycle mug-cycle successful-steal failed-steal tasks-in in
       record {
         working = λ t rest own.
@@ -99,13 +104,14 @@ module _ {plan : Plan} (sound : SoundPlan plan) where
       })
 
   record Ordered (made : List Cycle) (e : Execution) : Type 0 where
-    place : Placed plan e
-    order : InOrder plan (tasks-in made) (e .worked)
+    place : Placed graph e
+    order : InOrder graph (tasks-in made) (e .worked)
 
-  cycles-in-order : (choices : List ℕ) (made : List Cycle) (e : Execution) → length choices ≤ length (e .deques) → Placed plan e →
-      InOrder plan (tasks-in made) (e .worked) → InOrder plan (tasks-in (made ++ cycles-made plan 0 choices e)) (cycles plan 0 choices e .worked)
+  cycles-in-order : (choices : List ℕ) (made : List Cycle) (e : Execution) → length choices ≤ length (e .deques) → Placed graph e →
+      InOrder graph (tasks-in made) (e .worked) →
+      InOrder graph (tasks-in (made ++ cycles-made graph 0 choices e)) (cycles graph 0 choices e .worked)
   cycles-in-order choices made e h placed o =
-      cycles-made-keep plan Ordered
+      cycles-made-keep graph Ordered
       (λ made w choice e l f q.
       record { place = cycle-placed sound (q .place) w choice l; order = cycle-in-order made w choice e (q .place) (q .order) })
       choices
@@ -116,76 +122,49 @@ module _ {plan : Plan} (sound : SoundPlan plan) where
       (record { place = placed; order = o })
       .order
 
-  -- ---- a history
+-- ---- a history
 
-  record Kept (h : History) : Type 0 where
-    arrangement : Arranged plan (h .state)
-    order : InOrder plan (work-order h) (h .state .execution .worked)
-    none-made : h .state .started ≡ false → h .made ≡ []
+module _ {plan : Plan} (sound : SoundPlan plan) where
+  abbrev OrderKept : History → Type 0
+  OrderKept h = InOrder (plan .graph) (work-order h) (h .state .execution .worked)
 
-  kept-at-first : Kept (beginning plan)
-  kept-at-first =
-      unfold beginning fresh tasks-in in
+  order-at-first : OrderKept (beginning plan)
+  unfolding beginning fresh tasks-in occurrences
+  order-at-first =
       record {
-        arrangement = fresh-arranged sound;
-        order =
-            record {
-              flagged = λ t. unfold occurrences in rw (none-set (tasks plan) t) refl;
-              after-all = λ i p l m. absurd (not-suc-le-zero l);
-            };
-        none-made = λ h. refl;
+        flagged = λ t. rw (none-set (tasks (plan .graph)) t) refl;
+        after-all = λ i p l m. absurd (not-suc-le-zero l);
       }
 
-  -- a grant does not take a job back to where it had not started
-  was-unstarted : (g : ℕ) (s : State) → grant g s .started ≡ false → s .started ≡ false
-  unfolding grant
-  was-unstarted zero s h = h
-  was-unstarted (suc n) s h = absurd (true-is-not-false refl (rw (ne-eqb (suc n) 0 (omega arith)) at h))
-
-  kept-by-grant : (g : ℕ) (h : History) → GrantAccepted g (h .state) → Kept h → Kept (history-grant g h)
-  kept-by-grant g h t k =
-      unfold history-grant in
-      record {
-        arrangement = grant-arranged sound (h .state) (k .arrangement) g;
-        order = unfold grant in k .order;
-        none-made = λ off. k .none-made (was-unstarted g (h .state) off);
-      }
-
-  kept-by-tick : (choices : List ℕ) (h : History) → TickAccepted choices (h .state) → Kept h → Kept (history-tick plan choices h)
-  kept-by-tick choices h t k =
-      unfold history-tick in
-      record {
-        arrangement = tick-arranged sound (h .state) (k .arrangement) choices t;
-        order = rw (tick-execution plan choices (h .state)) (go (h .state .started) refl);
-        none-made = λ off.
-            let was-off = sym (tick-started plan choices (h .state)) ∙ off in
-            rw (k .none-made was-off, unstarted-cycles plan (h .state .execution) (k .arrangement .before was-off) choices (t .one-each) .1) refl;
-      }
+  order-kept : (done : List Call) (choices : List ℕ) → TickAccepted choices (run plan done .state) → OrderKept (run plan done) →
+      OrderKept (history-tick plan choices (run plan done))
+  unfolding history-tick
+  order-kept done choices t o = rw (tick-execution plan choices (run plan done .state)) (go (run plan done .state .started) refl)
     where
       e : Execution
-      e = h .state .execution
+      e = run plan done .state .execution
 
-      go : (b : Bool) → h .state .started ≡ b → InOrder plan (tasks-in (h .made ++ cycles-made plan 0 choices e)) (cycles plan 0 choices e .worked)
-      go true on = cycles-in-order choices (h .made) e (omega (arith, t .one-each)) (k .arrangement .after on) (k .order)
+      go : (b : Bool) → run plan done .state .started ≡ b →
+          InOrder (plan .graph) (tasks-in (run plan done .made ++ cycles-made (plan .graph) 0 choices e))
+          (cycles (plan .graph) 0 choices e .worked)
+      go true on =
+          cycles-in-order (sound .graph) choices (run plan done .made) e (omega (arith, t .one-each)) (arranged sound done .after on) o
       go false off =
-          let same = unstarted-cycles plan e (k .arrangement .before off) choices (t .one-each) in
-          rw (same .0, same .1, append-nil) (k .order)
+          let same = unstarted-cycles (plan .graph) e (arranged sound done .before off) choices (t .one-each) in
+          rw (same .0, same .1, append-nil) o
 
-  kept : (calls : List Call) → Kept (run plan calls)
-  kept calls = run-keeps plan Kept kept-at-first kept-by-grant kept-by-tick calls
-
-  -- before a count above 0 is granted no cycle is made
-  pub unstarted-made : (calls : List Call) → run plan calls .state .started ≡ false → run plan calls .made ≡ []
-  unstarted-made calls off = kept calls .none-made off
+  in-order : (calls : List Call) → OrderKept (run plan calls)
+  unfolding history-grant grant
+  in-order = run-keeps plan OrderKept order-at-first (λ done g t o. o) order-kept
 
   pub once-and-in-order : (calls : List Call) → OnceAndInOrder plan (run plan calls)
   once-and-in-order calls =
       record {
-        once = λ i j l m e. place-once order (λ t. at-most-one t (getD worked t false) (o .flagged t)) i j l m e;
+        once = λ i j l m e. place-once order (λ t. omega (arith, o .flagged t, one-or-none (getD worked t false))) i j l m e;
         in-order = o .after-all;
         marked = λ t. (
           λ h. found t order (let one = o .flagged t ∙ ap (λ (b : Bool). cond {A = ℕ} b 1 0) h in omega arith),
-          λ m. is-set t (getD worked t false) (o .flagged t) (occurs t order m),
+          λ m. is-one (getD worked t false) (omega (arith, o .flagged t, occurs t order m)),
         );
       }
     where
@@ -195,16 +174,8 @@ module _ {plan : Plan} (sound : SoundPlan plan) where
       worked : List Bool
       worked = run plan calls .state .execution .worked
 
-      o : InOrder plan order worked
-      o = kept calls .order
-
-      at-most-one : (t : ℕ) (b : Bool) → occurrences t order ≡ cond b 1 0 → occurrences t order ≤ 1
-      at-most-one t true h = omega arith
-      at-most-one t false h = omega arith
-
-      is-set : (t : ℕ) (b : Bool) → occurrences t order ≡ cond b 1 0 → 1 ≤ occurrences t order → b ≡ true
-      is-set t true h l = refl
-      is-set t false h l = absurd (omega arith)
+      o : InOrder (plan .graph) order worked
+      o = in-order calls
 
   pub finished-exactly : (calls : List Call) → FinishedExactly plan (run plan calls)
   unfolding status finished
@@ -219,7 +190,7 @@ module _ {plan : Plan} (sound : SoundPlan plan) where
       worked : List Bool
       worked = s .execution .worked
 
-      flags : length worked ≡ tasks plan
+      flags : length worked ≡ tasks (plan .graph)
       flags = flags-length (arranged sound calls)
 
       other : (a b : Bool) → _≡_ {A = ℕ} (cond (not a) 0 (cond b 2 1)) 3 → ⊥

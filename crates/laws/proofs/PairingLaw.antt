@@ -1,21 +1,22 @@
 -- Each inefficient quantum has an earlier efficient and satisfied partner, and no two share one. The induction carries a stack: for the
--- desire R^k, one unused efficient and satisfied quantum for each power below k. An end that raises the desire puts its quantum on top; an
+-- power k, one unused efficient and satisfied quantum for each power below k. An end that raises the desire puts its quantum on top; an
 -- inefficient one takes the top as its partner; any other end leaves the stack.
 -- Assumes nothing but how a quantum may end (QuantumEnd of Powers).
 use mathlib.Core.Path.{_≡_, refl, sym, ap, _∙_}
 use mathlib.Core.Bool.{true, false, cond}
 use mathlib.Core.Logic.{_⊎_, inl, inr}
 use mathlib.Core.List.{List, [], _∷_, _++_}
-use Prim.Native.Nat.{ℕ, suc, _*_, _^_, _≤_, _<_}
+use Prim.Native.Nat.{ℕ, suc, _≤_, _<_}
 use native.Mathlib.Omega.{arith}
-use native.Mathlib.Nat.{pow-suc, one-le-pow, mul-le-mul-right, one-mul, eq-or-lt-of-le, le-of-suc-le-suc}
+use native.Mathlib.Nat.{pow-suc, eq-or-lt-of-le, le-of-suc-le-suc}
 use lib.Dec.{eqb}
 use lib.ListN.{length, length-append, List·getD-append}
 use lib.Seq.{getD-append-seam}
 use borrow.Author.Tests.{eq-eqb, ne-eqb}
-use Rattle.model.specs.Plan.{Plan}
+use Rattle.model.specs.Plan.{Plan, Terms}
 use Rattle.model.specs.History.{ClosedQuantum}
 use Rattle.model.specs.Statements.{Pairing, Inefficient, OneIsEfficient, nth, no-quantum}
+use Rattle.laws.proofs.Ladder.{Ladder, power-ladder}
 use Rattle.laws.proofs.Powers.{QuantumEnd, lowers, raises, stays}
 
 -- ---- a function changed at one number
@@ -31,48 +32,53 @@ updated-below : (f : ℕ → ℕ) (n v i : ℕ) → i < n → updated f n v i �
 unfolding updated
 updated-below f n v i less = rw (ne-eqb i n (λ same. omega arith))
 
--- ---- what the induction carries
+-- ---- what the induction carries, for the desires of a ladder
 
--- p is a partner of the inefficient quantum i
-pub record Paired (plan : Plan) (quanta : List ClosedQuantum) (i p : ℕ) : Type 0 where
-  pub earlier : p < i
-  pub efficient : nth quanta p .was-efficient ≡ true
-  pub satisfied : nth quanta p .was-satisfied ≡ true
-  pub wanted : nth quanta p .wanted * plan .responsiveness ≡ nth quanta i .wanted
+module _ {terms : Terms} (ladder : Ladder terms) where
+  -- p is a partner of the inefficient quantum i: its desire is one step lower
+  pub record Paired (quanta : List ClosedQuantum) (i p : ℕ) : Type 0 where
+    pub earlier : p < i
+    pub efficient : nth quanta p .was-efficient ≡ true
+    pub satisfied : nth quanta p .was-satisfied ≡ true
+    pub power : ℕ
+    pub lower : nth quanta p .wanted ≡ ladder .count power
+    pub higher : nth quanta i .wanted ≡ ladder .count (suc power)
 
--- the quantum l may stand on the stack for the power j
-pub record Level (plan : Plan) (quanta : List ClosedQuantum) (j l : ℕ) : Type 0 where
-  pub there : l < length quanta
-  pub efficient : nth quanta l .was-efficient ≡ true
-  pub satisfied : nth quanta l .was-satisfied ≡ true
-  pub wanted : nth quanta l .wanted ≡ plan .responsiveness ^ j
+  -- the quantum l may stand on the stack for the power j
+  pub record Level (quanta : List ClosedQuantum) (j l : ℕ) : Type 0 where
+    pub there : l < length quanta
+    pub efficient : nth quanta l .was-efficient ≡ true
+    pub satisfied : nth quanta l .was-satisfied ≡ true
+    pub wanted : nth quanta l .wanted ≡ ladder .count j
 
-pub record Stacked (plan : Plan) (quanta : List ClosedQuantum) (k : ℕ) : Type 0 where
-  pub partner : ℕ → ℕ
-  pub paired : (i : ℕ) → Inefficient quanta i → Paired plan quanta i (partner i)
-  pub unshared : (i j : ℕ) → Inefficient quanta i → Inefficient quanta j → partner i ≡ partner j → i ≡ j
-  pub above-one : OneIsEfficient quanta
-  pub level : ℕ → ℕ
-  pub levels : (j : ℕ) → j < k → Level plan quanta j (level j)
-  pub apart : (i j : ℕ) → i < k → j < k → level i ≡ level j → i ≡ j
-  pub unused : (i j : ℕ) → Inefficient quanta i → j < k → partner i ≡ level j → ⊥
+  pub record Stacked (quanta : List ClosedQuantum) (k : ℕ) : Type 0 where
+    pub partner : ℕ → ℕ
+    pub paired : (i : ℕ) → Inefficient quanta i → Paired quanta i (partner i)
+    pub unshared : (i j : ℕ) → Inefficient quanta i → Inefficient quanta j → partner i ≡ partner j → i ≡ j
+    pub above-one : OneIsEfficient quanta
+    pub level : ℕ → ℕ
+    pub levels : (j : ℕ) → j < k → Level quanta j (level j)
+    pub apart : (i j : ℕ) → i < k → j < k → level i ≡ level j → i ≡ j
+    pub unused : (i j : ℕ) → Inefficient quanta i → j < k → partner i ≡ level j → ⊥
 
-pub pairing-of : (plan : Plan) (quanta : List ClosedQuantum) (k : ℕ) → Stacked plan quanta k → Pairing plan quanta
-pairing-of plan quanta k s =
+-- on the ladder of the powers of R one step lower times R is the own desire
+pub pairing-of : (plan : Plan) (responsive : 2 ≤ plan .terms .responsiveness) (quanta : List ClosedQuantum) (k : ℕ) →
+    Stacked (power-ladder (plan .terms) responsive) quanta k → Pairing plan quanta
+pairing-of plan responsive quanta k s =
     record {
       partner = s .partner;
       earlier = λ i bad. s .paired i bad .earlier;
       efficient = λ i bad. s .paired i bad .efficient;
       satisfied = λ i bad. s .paired i bad .satisfied;
-      wanted = λ i bad. s .paired i bad .wanted;
+      wanted = λ i bad. let p = s .paired i bad in rw (p .lower, p .higher) (sym (pow-suc (plan .terms .responsiveness) (p .power)));
       unshared = s .unshared;
     }
 
 no-inefficient : (i : ℕ) → Inefficient [] i → ⊥
 no-inefficient i bad = omega (arith, bad .0)
 
-pub stacked-none : (plan : Plan) → Stacked plan [] 0
-stacked-none plan =
+pub stacked-none : {terms : Terms} (ladder : Ladder terms) → Stacked ladder [] 0
+stacked-none ladder =
     record {
       partner = λ i. 0;
       paired = λ i bad. absurd (no-inefficient i bad);
@@ -89,7 +95,7 @@ stacked-none plan =
 below-suc : {j k : ℕ} → j < suc k → (j ≡ k) ⊎ (j < k)
 below-suc less = eq-or-lt-of-le (le-of-suc-le-suc less)
 
-module _ (plan : Plan) (quanta : List ClosedQuantum) (q : ClosedQuantum) where
+module _ {terms : Terms} (ladder : Ladder terms) (quanta : List ClosedQuantum) (q : ClosedQuantum) where
   abbrev more : List ClosedQuantum
   more = quanta ++ q ∷ []
 
@@ -114,7 +120,7 @@ module _ (plan : Plan) (quanta : List ClosedQuantum) (q : ClosedQuantum) where
       go (inl same) = last same (ap (λ c. c .was-efficient) (sym new ∙ ap (nth more) (sym same)) ∙ bad .1)
       go (inr less) = before (less, ap (λ c. c .was-efficient) (sym (old i less)) ∙ bad .1)
 
-  paired-more : {i p : ℕ} → i < length quanta → Paired plan quanta i p → Paired plan more i p
+  paired-more : {i p : ℕ} → i < length quanta → Paired ladder quanta i p → Paired ladder more i p
   paired-more {i} {p} less s =
       let same = old i less in
       let same′ = old p (omega (arith, s .earlier)) in
@@ -122,10 +128,12 @@ module _ (plan : Plan) (quanta : List ClosedQuantum) (q : ClosedQuantum) where
         earlier = s .earlier;
         efficient = rw same′ (s .efficient);
         satisfied = rw same′ (s .satisfied);
-        wanted = rw (same′, same) (s .wanted);
+        power = s .power;
+        lower = rw same′ (s .lower);
+        higher = rw same (s .higher);
       }
 
-  level-more : {j l : ℕ} → Level plan quanta j l → Level plan more j l
+  level-more : {j l : ℕ} → Level ladder quanta j l → Level ladder more j l
   level-more {j} {l} s =
       let same = old l (s .there) in
       record {
@@ -136,7 +144,7 @@ module _ (plan : Plan) (quanta : List ClosedQuantum) (q : ClosedQuantum) where
       }
 
   -- q is efficient: the partners stay, and no quantum of theirs or of the stack is q
-  module _ (k : ℕ) (s : Stacked plan quanta k) where
+  module _ (k : ℕ) (s : Stacked ladder quanta k) where
     module _ (is-efficient : q .was-efficient ≡ true) where
       still : (i : ℕ) → Inefficient more i → Inefficient quanta i
       still i bad = go (place i bad)
@@ -145,7 +153,7 @@ module _ (plan : Plan) (quanta : List ClosedQuantum) (q : ClosedQuantum) where
           go (before was) = was
           go (last same inefficient) = absurd (let z : _≡_ {A = ℕ} 0 1 = cc in omega arith)
 
-      kept : Stacked plan more k
+      kept : Stacked ladder more k
       kept =
           record {
             partner = s .partner;
@@ -159,11 +167,11 @@ module _ (plan : Plan) (quanta : List ClosedQuantum) (q : ClosedQuantum) where
           }
 
       -- q is satisfied too, and the desire rises: q goes on top of the stack
-      module _ (is-satisfied : q .was-satisfied ≡ true) (its-wanted : q .wanted ≡ plan .responsiveness ^ k) where
+      module _ (is-satisfied : q .was-satisfied ≡ true) (its-wanted : q .wanted ≡ ladder .count k) where
         pushed-level : ℕ → ℕ
         pushed-level = updated (s .level) k (length quanta)
 
-        top-level : Level plan more k (length quanta)
+        top-level : Level ladder more k (length quanta)
         top-level =
             record {
               there = omega (arith, more-length);
@@ -172,7 +180,7 @@ module _ (plan : Plan) (quanta : List ClosedQuantum) (q : ClosedQuantum) where
               wanted = rw new its-wanted;
             }
 
-        pushed-levels : (j : ℕ) → (j ≡ k) ⊎ (j < k) → Level plan more j (pushed-level j)
+        pushed-levels : (j : ℕ) → (j ≡ k) ⊎ (j < k) → Level ladder more j (pushed-level j)
         unfolding pushed-level
         pushed-levels j (inl same) = rw (same, updated-at) top-level
         pushed-levels j (inr less) = rw (updated-below (s .level) k (length quanta) j less) (level-more (s .levels j less))
@@ -198,7 +206,7 @@ module _ (plan : Plan) (quanta : List ClosedQuantum) (q : ClosedQuantum) where
         pushed-unused i j bad (inl y) same = omega (arith, bad .0, s .paired i bad .earlier, pushed-top j y)
         pushed-unused i j bad (inr y) same = s .unused i j bad y (same ∙ pushed-under j y)
 
-        pushed : Stacked plan more (suc k)
+        pushed : Stacked ladder more (suc k)
         unfolding kept
         pushed =
             record {
@@ -213,9 +221,9 @@ module _ (plan : Plan) (quanta : List ClosedQuantum) (q : ClosedQuantum) where
             }
 
   -- q is inefficient: the top of the stack becomes its partner
-  module _ (k : ℕ) (s : Stacked plan quanta (suc k)) (its-wanted : q .wanted ≡ plan .responsiveness ^ suc k) (responsive : 2 ≤ plan .responsiveness)
+  module _ (k : ℕ) (s : Stacked ladder quanta (suc k)) (its-wanted : q .wanted ≡ ladder .count (suc k)) (more-than-one : 1 < q .wanted)
     where
-      top : Level plan quanta k (s .level k)
+      top : Level ladder quanta k (s .level k)
       top = s .levels k (omega arith)
 
       popped-partner : ℕ → ℕ
@@ -229,17 +237,19 @@ module _ (plan : Plan) (quanta : List ClosedQuantum) (q : ClosedQuantum) where
       unfolding popped-partner
       popped-old i less = updated-below (s .partner) (length quanta) (s .level k) i less
 
-      newly-paired : Paired plan more (length quanta) (s .level k)
+      newly-paired : Paired ladder more (length quanta) (s .level k)
       newly-paired =
           let same = old (s .level k) (top .there) in
           record {
             earlier = top .there;
             efficient = rw same (top .efficient);
             satisfied = rw same (top .satisfied);
-            wanted = rw (same, new, top .wanted, its-wanted, pow-suc);
+            power = k;
+            lower = rw same (top .wanted);
+            higher = rw new its-wanted;
           }
 
-      popped-paired : (i : ℕ) → Place i → Paired plan more i (popped-partner i)
+      popped-paired : (i : ℕ) → Place i → Paired ladder more i (popped-partner i)
       popped-paired i (before was) = rw (popped-old i (was .0)) (paired-more (was .0) (s .paired i was))
       popped-paired i (last same inefficient) = rw (popped-new i same, same) newly-paired
 
@@ -254,18 +264,14 @@ module _ (plan : Plan) (quanta : List ClosedQuantum) (q : ClosedQuantum) where
 
       popped-above-one : (i : ℕ) → Place i → 1 < nth more i .wanted
       popped-above-one i (before was) = rw (old i (was .0)) (s .above-one i was)
-      popped-above-one i (last same e) =
-          let some : 1 ≤ plan .responsiveness ^ k = one-le-pow k (plan .responsiveness) (omega arith) in
-          let grown : 1 * plan .responsiveness ≤ plan .responsiveness ^ k * plan .responsiveness = mul-le-mul-right (plan .responsiveness) some in
-          let product : q .wanted ≡ plan .responsiveness ^ k * plan .responsiveness = its-wanted ∙ pow-suc _ _ in
-          rw (same, new) (omega (arith, one-mul (plan .responsiveness)))
+      popped-above-one i (last same e) = rw (same, new) more-than-one
 
       popped-unused : (i j : ℕ) → Place i → j < k → popped-partner i ≡ s .level j → ⊥
       popped-unused i j (before x) less same = s .unused i j x (omega arith) (sym (popped-old i (x .0)) ∙ same)
       popped-unused i j (last x e) less same =
           omega (arith, s .apart k j (omega arith) (omega arith) (sym (popped-new i x) ∙ same))
 
-      popped : Stacked plan more k
+      popped : Stacked ladder more k
       popped =
           record {
             partner = popped-partner;
@@ -279,9 +285,9 @@ module _ (plan : Plan) (quanta : List ClosedQuantum) (q : ClosedQuantum) where
           }
 
   -- the stack after any end of a quantum
-  pub stacked-end : (usage k after : ℕ) → 2 ≤ plan .responsiveness → q .wanted ≡ plan .responsiveness ^ k → QuantumEnd plan q usage k after →
-      Stacked plan quanta k → Stacked plan more after
-  stacked-end usage k after responsive its-wanted (lowers {k = j} inefficient) s = popped j s its-wanted responsive
-  stacked-end usage k after responsive its-wanted (raises {k = j} is-efficient is-satisfied all enough) s =
+  pub stacked-end : (usage k after : ℕ) → q .wanted ≡ ladder .count k → QuantumEnd terms q usage k after → Stacked ladder quanta k →
+      Stacked ladder more after
+  stacked-end usage k after its-wanted (lowers {k = j} inefficient more-than-one) s = popped j s its-wanted more-than-one
+  stacked-end usage k after its-wanted (raises {k = j} is-efficient is-satisfied all enough) s =
       pushed j s is-efficient is-satisfied its-wanted
-  stacked-end usage k after responsive its-wanted (stays {k = j} is-efficient enough) s = kept j s is-efficient
+  stacked-end usage k after its-wanted (stays {k = j} is-efficient enough) s = kept j s is-efficient

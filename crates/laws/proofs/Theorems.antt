@@ -3,7 +3,7 @@
 -- Assumes nothing.
 use mathlib.Core.List.{List}
 use Prim.Native.Nat.{_≤_}
-use Rattle.model.specs.Plan.{Plan, tasks}
+use Rattle.model.specs.Plan.{Plan, tasks, most-tasks, longest-quantum}
 use Rattle.model.specs.Machine.{Call}
 use Rattle.model.specs.History.{run}
 use Rattle.model.specs.Statements.{SoundPlan, Progress, Demand3, MugBound, OneIsEfficient, DesireIsPower, OnceAndInOrder, FinishedExactly}
@@ -11,6 +11,7 @@ use Rattle.model.specs.Statements.{StopsAtTop, EndsAsRecorded}
 use Rattle.laws.specs.Invariants.{Bounded}
 use Rattle.laws.specs.Reached.{Arranged, Measured, CountsFit, largest-granted}
 use Rattle.laws.specs.Meaning.{CountsMean, UsageMeans}
+use Rattle.laws.proofs.Ladder.{Ladder, power-ladder}
 use Rattle.laws.proofs.PairingLaw.{pairing-of}
 use Rattle.laws.proofs.MugLimitLaw.{mug-limit-of, mug-bound-of}
 use Rattle.laws.proofs.Carried.{Carried, carried}
@@ -26,15 +27,22 @@ module _ {plan : Plan} (sound : SoundPlan plan) (calls : List Call) where
   pub progress : Progress plan (run plan calls)
   progress = Progress.progress sound calls
 
-  carries : Carried plan (run plan calls)
-  carries = carried plan sound (Progress.progress sound) calls
+  -- the desires are the powers of R
+  abbrev ladder : Ladder (plan .terms)
+  ladder = power-ladder (plan .terms) (sound .terms .responsive)
 
-  -- M × L × D ≤ 100 × (1 + R) × (W + M); and each closed inefficient quantum has an earlier closed, efficient and satisfied one whose desire
-  -- times R is its own, and no two share one
+  carries : Carried plan ladder (run plan calls)
+  carries = carried sound ladder calls
+
+  -- M × L × D ≤ 100 × (1 + R) × (W + M); and each closed inefficient quantum has an earlier closed, efficient and satisfied one whose
+  -- desire times R is its own, and no two share one
   pub demand-three : Demand3 plan calls
   demand-three =
       let c = carries in
-      record { limit = mug-limit-of plan (run plan calls) _ _ (c .balance); pairing = pairing-of plan _ _ (c .stack) }
+      record {
+        limit = mug-limit-of plan (sound .terms .responsive) (run plan calls) _ _ (c .balance);
+        pairing = pairing-of plan (sound .terms .responsive) _ _ (c .stack);
+      }
 
   -- where L × D > 100 × (1 + R): M × (L × D − 100 × (1 + R)) ≤ 100 × (1 + R) × W, so the work alone bounds the mugs
   pub mug-bound : MugBound plan (run plan calls)
@@ -48,16 +56,16 @@ module _ {plan : Plan} (sound : SoundPlan plan) (calls : List Call) where
   pub desire-is-power : DesireIsPower plan (run plan calls)
   desire-is-power =
       let c = carries in
-      record { power = c .power; is-power = c .desire .is-power; at-most = c .desire .at-most }
+      record { power = c .power; is-power = c .desire .is-count; at-most = c .desire .at-most }
 
   -- "So it stops at the largest powers of R up to 64, for R = 2 to 7": the desire never exceeds the table's entry; an efficient and
   -- satisfied end multiplies it by R below the entry, and leaves it at the entry
-  pub stops-at-top : plan .responsiveness ≤ 7 → StopsAtTop plan (run plan calls)
+  pub stops-at-top : plan .terms .responsiveness ≤ 7 → StopsAtTop plan (run plan calls)
   stops-at-top three-bits = Tops.stops-at-top sound three-bits desire-is-power
 
   -- what the history keeps of a quantum that closes is what the state shows, and the desire moves by the verdict kept
   pub ends-as-recorded : EndsAsRecorded plan (run plan calls)
-  ends-as-recorded = Carried.ends-as-recorded plan sound (run plan calls) progress carries
+  ends-as-recorded = Carried.ends-as-recorded sound ladder calls
 
   -- "Each piece is worked at most once, after all before it"; the state shows exactly those of the order
   pub once-and-in-order : OnceAndInOrder plan (run plan calls)
@@ -81,7 +89,7 @@ module _ {plan : Plan} (sound : SoundPlan plan) (calls : List Call) where
   measured = Histories.measured sound calls
 
   -- the same in numbers, for fields of document 01's widths: no sum of the code can wrap
-  pub counts-fit : plan .quantum-length ≤ 65535 → tasks plan ≤ 1024 → CountsFit (run plan calls .state)
+  pub counts-fit : plan .terms .quantum-length ≤ longest-quantum → tasks (plan .graph) ≤ most-tasks → CountsFit (run plan calls .state)
   counts-fit short small = Histories.counts-fit sound short small calls
 
   -- work, mug, steal and success count the cycles of their kind among all that the workers made

@@ -16,7 +16,7 @@ use Rattle.model.specs.Machine.{desire-at, most-workers, next-desire, top-desir
 use Rattle.model.specs.History.{History}
 use Rattle.model.specs.Examples.{powers, top-desire-right, top-desires-right, top-desires-rule}
 use Rattle.model.specs.Statements.{SoundPlan, DesireIsPower, TopDesire, StopsAtTop}
-use Rattle.laws.proofs.Lists.{true-is-not-false, and-left, and-right}
+use Rattle.lists.proofs.Tests.{true-is-not-false, and-left, and-right}
 
 -- ---- the rule at each entry
 
@@ -103,20 +103,20 @@ module _ {r top desire : ℕ} (responsive : 2 ≤ r) (t : TopDesire r top)
 
 -- ---- where the desire stops
 
-pub stops-at-top : {plan : Plan} {h : History} → SoundPlan plan → plan .responsiveness ≤ 7 → DesireIsPower plan h → StopsAtTop plan h
+pub stops-at-top : {plan : Plan} {h : History} → SoundPlan plan → plan .terms .responsiveness ≤ 7 → DesireIsPower plan h → StopsAtTop plan h
 unfolding next-desire
 stops-at-top {plan} {h} sound three-bits d =
-    let r = plan .responsiveness in
+    let r = plan .terms .responsiveness in
     let desire = h .state .desire in
-    let t = top-of r (sound .responsive) three-bits in
+    let t = top-of r (sound .terms .responsive) three-bits in
     record {
-      at-most = at-most-top (sound .responsive) t (d .power) (d .is-power) (d .at-most);
+      at-most = at-most-top (sound .terms .responsive) t (d .power) (d .is-power) (d .at-most);
       rises =
           λ lower.
-          let room = room-below (sound .responsive) t (d .power) (d .is-power) (d .at-most) lower in
+          let room = room-below (sound .terms .responsive) t (d .power) (d .is-power) (d .at-most) lower in
           rw (le-leb (desire * r) most-workers room) refl;
       stays =
           λ same.
-          let none = no-room-at (sound .responsive) t (d .power) (d .is-power) (d .at-most) same in
+          let none = no-room-at (sound .terms .responsive) t (d .power) (d .is-power) (d .at-most) same in
           rw (lt-leb (desire * r) most-workers none) refl;
     }

@@ -4,8 +4,8 @@ use mathlib.Core.List.{List}
 use Prim.Native.Nat.{ℕ}
 use lib.ListN.{length, getD}
 use Rattle.model.specs.Tests.{keep}
-use Rattle.model.specs.Plan.{Plan, predecessors}
+use Rattle.model.specs.Plan.{Graph, predecessors}
 
 -- the predecessors of the task t that are not worked
-abbrev pub still-awaited : Plan → List Bool → ℕ → ℕ
-still-awaited plan worked t = length (keep (λ p. not (getD worked p false)) (predecessors plan t))
+abbrev pub still-awaited : Graph → List Bool → ℕ → ℕ
+still-awaited graph worked t = length (keep (λ p. not (getD worked p false)) (predecessors graph t))

@@ -6,7 +6,7 @@ use Prim.Native.Nat.{ℕ, _+_, _≤_}
 use lib.Dec.{eqb, ltb}
 use lib.ListN.{length, getD}
 use Rattle.model.specs.Tests.{every, is-empty, count-set}
-use Rattle.model.specs.Plan.{Plan, tasks}
+use Rattle.model.specs.Plan.{Graph, tasks}
 use Rattle.model.specs.Machine.{Execution, ready}
 
 -- how often the task t stands in a deque
@@ -25,16 +25,16 @@ busy [] = 0
 busy (d ∷ ds) = cond (is-empty d) 0 1 + busy ds
 
 -- the task is one of the plan, ready and not worked
-unfoldable pub waiting-work : Plan → List Bool → ℕ → Bool
-waiting-work plan worked t = ltb t (tasks plan) && (ready plan worked t && not (getD worked t false))
+unfoldable pub waiting-work : Graph → List Bool → ℕ → Bool
+waiting-work graph worked t = ltb t (tasks graph) && (ready graph worked t && not (getD worked t false))
 
 -- "the tasks in deques and muggable deques are exactly the ready unworked ones, each once; a muggable deque is never empty"
-pub record Placed (plan : Plan) (e : Execution) : Type 0 where
-  pub flags : length (e .worked) ≡ tasks plan
-  pub once : (t : ℕ) → in-deques t (e .deques) + in-deques t (e .muggable) ≡ cond (waiting-work plan (e .worked) t) 1 0
+pub record Placed (graph : Graph) (e : Execution) : Type 0 where
+  pub flags : length (e .worked) ≡ tasks graph
+  pub once : (t : ℕ) → in-deques t (e .deques) + in-deques t (e .muggable) ≡ cond (waiting-work graph (e .worked) t) 1 0
   pub filled : every (λ d. not (is-empty d)) (e .muggable) ≡ true
   -- a worked task's predecessors are worked: without it a task that is released might be worked already
-  pub ordered : (t : ℕ) → getD (e .worked) t false ≡ true → ready plan (e .worked) t ≡ true
+  pub ordered : (t : ℕ) → getD (e .worked) t false ≡ true → ready graph (e .worked) t ≡ true
 
 -- the non-empty deques and the muggable ones together number at most so many
 pub record Bounded (most : ℕ) (e : Execution) : Type 0 where

@@ -1,24 +1,24 @@
--- What holds of every state that a history reaches, whatever the calls: where its tasks stand, how many deques there are, and how large each
--- count can be.
+-- What holds of every state that a history reaches, whatever the calls: where its tasks stand, how many deques there are, and how large
+-- each count can be.
 use mathlib.Core.Path.{_≡_}
 use mathlib.Core.Bool.{true, false}
 use mathlib.Core.List.{List, [], _∷_}
 use Prim.Native.Nat.{ℕ, _+_, _*_, _≤_, _<_, max}
 use lib.ListN.{replicate}
-use Rattle.model.specs.Plan.{Plan, tasks}
+use Rattle.model.specs.Plan.{Plan, Graph, tasks, most-tasks, longest-quantum}
 use Rattle.model.specs.Machine.{Counts, Execution, State, allotment, opened, finished, quantum-limit, most-workers}
 use Rattle.model.specs.History.{ClosedQuantum, CurrentQuantum, none, begun-with, History}
 use Rattle.laws.specs.Invariants.{Placed, Bounded, Tallied}
 
 -- before a count above 0 is granted nothing stands anywhere, and nothing is worked
-pub record Unstarted (plan : Plan) (e : Execution) : Type 0 where
-  pub none-worked : e .worked ≡ replicate (tasks plan) false
+pub record Unstarted (graph : Graph) (e : Execution) : Type 0 where
+  pub none-worked : e .worked ≡ replicate (tasks graph) false
   pub no-deques : e .deques ≡ []
   pub no-muggable : e .muggable ≡ []
 
 pub record Arranged (plan : Plan) (s : State) : Type 0 where
-  pub before : s .started ≡ false → Unstarted plan (s .execution)
-  pub after : s .started ≡ true → Placed plan (s .execution)
+  pub before : s .started ≡ false → Unstarted (plan .graph) (s .execution)
+  pub after : s .started ≡ true → Placed (plan .graph) (s .execution)
   pub tally : Tallied (s .execution)
 
 -- ---- the largest count granted so far
@@ -37,32 +37,32 @@ largest-granted h = max (largest-closed (h .closed-quanta)) (granted-in (h .curr
 -- ---- how large the counts can be
 
 -- all cycles that were counted
-abbrev pub cycles-counted : Counts → ℕ
-cycles-counted c = c .works .work + c .mugs .mug + c .steals .steal
+abbrev pub all-counted : Counts → ℕ
+all-counted c = c .works .work + c .mugs .mug + c .steals .steal
 
 -- an open quantum that has had so many ticks
 pub record OpenQuantum (plan : Plan) (s : State) (ticks : ℕ) : Type 0 where
-  pub within : ticks ≤ plan .quantum-length
-  pub unclosed : finished (s .execution) ≡ false → ticks < plan .quantum-length
+  pub within : ticks ≤ plan .terms .quantum-length
+  pub unclosed : finished (s .execution) ≡ false → ticks < plan .terms .quantum-length
   pub granted : allotment s ≤ s .desire
   pub usage-so-far : s .execution .counts .usage ≤ most-workers * ticks
   -- the ticks that it has not had leave room
-  pub room : cycles-counted (s .execution .counts) + most-workers * plan .quantum-length
-      ≤ most-workers * (plan .quantum-length * s .begun) + most-workers * ticks
+  pub room : all-counted (s .execution .counts) + most-workers * plan .terms .quantum-length
+      ≤ most-workers * (plan .terms .quantum-length * s .begun) + most-workers * ticks
 
 pub record Measured (plan : Plan) (s : State) : Type 0 where
   pub wanted : s .desire ≤ most-workers
   pub deques-at-most : Bounded most-workers (s .execution)
   pub quanta : s .begun ≤ quantum-limit
   pub current : (ticks : ℕ) → s .quantum ≡ opened ticks → OpenQuantum plan s ticks
-  pub usage-at-most : s .execution .counts .usage ≤ most-workers * plan .quantum-length
-  pub cycles-at-most : cycles-counted (s .execution .counts) ≤ most-workers * (plan .quantum-length * s .begun)
+  pub usage-at-most : s .execution .counts .usage ≤ most-workers * plan .terms .quantum-length
+  pub cycles-at-most : all-counted (s .execution .counts) ≤ most-workers * (plan .terms .quantum-length * s .begun)
   pub successful : s .execution .counts .successes ≤ s .execution .counts .steals .steal
 
 -- in numbers, for a plan whose fields have the widths of document 01: no count comes near 2^64
 pub record CountsFit (s : State) : Type 0 where
-  pub work : s .execution .counts .works .work ≤ 1024
-  pub usage : s .execution .counts .usage ≤ 4194240
-  pub all-cycles : cycles-counted (s .execution .counts) ≤ 274869518400
-  pub successes : s .execution .counts .successes ≤ 274869518400
+  pub work : s .execution .counts .works .work ≤ most-tasks
+  pub usage : s .execution .counts .usage ≤ most-workers * longest-quantum
+  pub all-cycles : all-counted (s .execution .counts) ≤ most-workers * (longest-quantum * quantum-limit)
+  pub successes : s .execution .counts .successes ≤ most-workers * (longest-quantum * quantum-limit)
   pub begun : s .begun ≤ quantum-limit

@@ -29,7 +29,7 @@ unfoldable pub counters : Plan → State → ℕ → List ℕ
 counters plan s refusals =
     status s
     ∷ tasks-worked s
-    ∷ tasks plan
+    ∷ tasks (plan .graph)
     ∷ s .desire
     ∷ allotment s
     ∷ s .execution .counts .works .work

@@ -1,22 +1,24 @@
 -- Document 01's P examples, and rows of our own that tell misreadings apart, as one table. The checker computes every row.
 use mathlib.Core.Path.{_≡_, refl}
-use mathlib.Core.Bool.{Bool, true, false, cond, not, _&&_, toNat}
+use mathlib.Core.Bool.{Bool, true, false, cond, not, _&&_}
 use mathlib.Core.List.{List, [], _∷_, _++_, map, flatMap}
-use Prim.Native.Nat.{ℕ, zero, suc, _+_, _*_, _-_, _/_, _%_, _^_}
+use Prim.Native.Nat.{ℕ, suc, _+_, _*_, _-_, _/_, _%_, _^_}
 use lib.Dec.{leb, ltb, eqb}
 use lib.ListN.{length, getD, take, drop, replicate}
 use Rattle.model.specs.Tests.{below, every, keep, member, count-set, all-set}
-use Rattle.model.specs.Questions.{Answer, accepted, refused, answer-number, first-no}
+use Rattle.model.specs.Questions.{accepted, refused, answer-number, first-no}
 use Rattle.model.specs.Plan
-use Rattle.model.specs.Plan.{Plan, plan-of, plan-answer, form-field, responsiveness-field, utilization-field, quantum-length-field, task-count, count-field, first-field, second-field}
+use Rattle.model.specs.Plan.{Plan, plan-of, plan-answer, form-field, responsiveness-field, utilization-field, quantum-length-field}
+use Rattle.model.specs.Plan.{task-count, count-field, first-field, second-field}
 use Rattle.model.specs.Machine
-use Rattle.model.specs.Machine.{State, Call, grants, ticks, call-answer, step, fresh, status, no-quantum-open, ticks-of, grant-questions, efficient, next-desire, top-desires, desire-at, most-workers}
+use Rattle.model.specs.Machine.{State, Call, grants, ticks, call-answer, step, fresh, status, no-quantum-open, ticks-of}
+use Rattle.model.specs.Machine.{grant-questions, efficient, next-desire, top-desires, desire-at, most-workers}
 use Rattle.model.specs.History
 use Rattle.model.specs.History.{ClosedQuantum, CurrentQuantum, none, begun-with, run, work-order}
 use Rattle.model.specs.Log
-use Rattle.model.specs.Log.{Ran, run-log, run-calls, log-answer}
+use Rattle.model.specs.Log.{run-log, run-calls, log-answer}
 use Rattle.model.specs.Label
-use Rattle.model.specs.Label.{label, label-answer, Stretch, bytes-of}
+use Rattle.model.specs.Label.{label, label-answer, bytes-of}
 use Rattle.model.specs.Counters
 use Rattle.model.specs.Counters.{decimal, counters, buffer-after, counters-answer}
 use Rattle.model.specs.Program
@@ -143,7 +145,8 @@ document-rows =
     row (program (0x00 ∷ 0x11 ∷ [] ++ plan-a ++ (0x01 ∷ 0x81 ∷ 0x00 ∷ 0x81 ∷ 0x00 ∷ 0x02 ∷ 0x82 ∷ 0x00 ∷ 0x00 ∷ 0x82 ∷ 0x00 ∷ 0x00 ∷ [])))
     (51 ∷ 32 ∷ 52 ∷ 32 ∷ 52 ∷ 32 ∷ 50 ∷ 32 ∷ 50 ∷ 32 ∷ 52 ∷ 32 ∷ 48 ∷ 32 ∷ 49 ∷ 32 ∷ 48 ∷ 32 ∷ 48 ∷ 10 ∷ [])
     -- 2
-    ∷ row (shown plan-a (0x01 ∷ 0x81 ∷ 0x00 ∷ 0x81 ∷ 0x00 ∷ 0x00 ∷ 0x80 ∷ 0x80 ∷ 0x01 ∷ 0x81 ∷ 0x00 ∷ 0x81 ∷ 0x00 ∷ 0x01 ∷ 0x81 ∷ 0x00 ∷ []))
+    ∷ row (shown plan-a
+    (0x01 ∷ 0x81 ∷ 0x00 ∷ 0x81 ∷ 0x00 ∷ 0x00 ∷ 0x80 ∷ 0x80 ∷ 0x01 ∷ 0x81 ∷ 0x00 ∷ 0x81 ∷ 0x00 ∷ 0x01 ∷ 0x81 ∷ 0x00 ∷ []))
     (3 ∷ 4 ∷ 4 ∷ 2 ∷ 1 ∷ 4 ∷ 1 ∷ 0 ∷ 0 ∷ 0 ∷ [])
     -- 3
     ∷ row (shown plan-a []) (0 ∷ 0 ∷ 4 ∷ 1 ∷ 0 ∷ 0 ∷ 0 ∷ 0 ∷ 0 ∷ 0 ∷ [])
@@ -151,9 +154,9 @@ document-rows =
     ∷ row (answered plan-a [] (grants 2)) (14 ∷ [])
     ∷ row (shown plan-a (0x02 ∷ 0x00 ∷ [])) (0 ∷ 0 ∷ 4 ∷ 1 ∷ 0 ∷ 0 ∷ 0 ∷ 0 ∷ 0 ∷ 1 ∷ [])
     -- 5
-    ∷ row (map (λ u. cond (efficient (plan-of (diamond 2 80 5)) u 2) 1 0) (8 ∷ 7 ∷ [])) (1 ∷ 0 ∷ [])
+    ∷ row (map (λ u. cond (efficient (plan-of (diamond 2 80 5) .terms) u 2) 1 0) (8 ∷ 7 ∷ [])) (1 ∷ 0 ∷ [])
     -- 6
-    ∷ row (next-desire (plan-of (diamond 3 80 2)) 27 true true ∷ []) (27 ∷ [])
+    ∷ row (next-desire (plan-of (diamond 3 80 2) .terms) 27 true true ∷ []) (27 ∷ [])
     -- 7
     ∷ row (placed (seven 1) (grants 1 ∷ ticks (0 ∷ []) ∷ grants 2 ∷ [])) (2 ∷ 1 ∷ 2 ∷ 0 ∷ [])
     ∷ row (placed (seven 1) (grants 1 ∷ ticks (0 ∷ []) ∷ grants 2 ∷ ticks (0 ∷ 0 ∷ []) ∷ [])) (2 ∷ 3 ∷ 4 ∷ 1 ∷ 2 ∷ [])
@@ -231,9 +234,11 @@ plan-rows =
     -- 7 of a piece comes before 8 of it
     ∷ row (refusal (plan-bytes 2 80 2 (task 1 0 5 ∷ task 0 0 0 ∷ []))) (7 ∷ [])
     -- count 3; unused fields that are not 0
-    ∷ row (flatMap (λ p. refusal (plan-bytes 2 80 2 (p ∷ task 1 2 0 ∷ task 0 0 0 ∷ []))) (task 3 1 2 ∷ task 0 1 0 ∷ task 0 0 1 ∷ task 1 1 1 ∷ [])) (7 ∷ 7 ∷ 7 ∷ 7 ∷ [])
+    ∷ row (flatMap (λ p. refusal (plan-bytes 2 80 2 (p ∷ task 1 2 0 ∷ task 0 0 0 ∷ [])))
+    (task 3 1 2 ∷ task 0 1 0 ∷ task 0 0 1 ∷ task 1 1 1 ∷ [])) (7 ∷ 7 ∷ 7 ∷ 7 ∷ [])
     -- itself; N; two equal ones; the second, the first out of range
-    ∷ row (flatMap (λ p. refusal (plan-bytes 2 80 2 (p ∷ task 1 2 0 ∷ task 0 0 0 ∷ []))) (task 1 0 0 ∷ task 1 3 0 ∷ task 2 1 1 ∷ task 2 1 3 ∷ task 2 0 1 ∷ [])) (8 ∷ 8 ∷ 8 ∷ 8 ∷ 8 ∷ [])
+    ∷ row (flatMap (λ p. refusal (plan-bytes 2 80 2 (p ∷ task 1 2 0 ∷ task 0 0 0 ∷ [])))
+    (task 1 0 0 ∷ task 1 3 0 ∷ task 2 1 1 ∷ task 2 1 3 ∷ task 2 0 1 ∷ [])) (8 ∷ 8 ∷ 8 ∷ 8 ∷ 8 ∷ [])
     -- two followers in falling order are fine
     ∷ row (refusal (plan-bytes 2 80 2 (task 2 2 1 ∷ task 1 3 0 ∷ task 1 3 0 ∷ task 0 0 0 ∷ []))) (0 ∷ [])
     -- "before" is direct: the last task of a chain has one piece before it
@@ -258,7 +263,8 @@ grant-rows =
     -- a round of 0 leaves the wanted count
     ∷ row (shown plan-a (0 ∷ 0x80 ∷ 0x80 ∷ [])) (0 ∷ 0 ∷ 4 ∷ 1 ∷ 0 ∷ 0 ∷ 0 ∷ 0 ∷ 0 ∷ 0 ∷ [])
     -- 13, before 14
-    ∷ row (answer-number (first-no (grant-questions 1 (fresh-with 65534))) ∷ answer-number (first-no (grant-questions 1 (fresh-with 65535))) ∷ answer-number (first-no (grant-questions 2 (fresh-with 65535))) ∷ []) (0 ∷ 13 ∷ 13 ∷ [])
+    ∷ row (answer-number (first-no (grant-questions 1 (fresh-with 65534))) ∷ answer-number (first-no (grant-questions 1 (fresh-with 65535)))
+    ∷ answer-number (first-no (grant-questions 2 (fresh-with 65535))) ∷ []) (0 ∷ 13 ∷ 13 ∷ [])
     -- the last round is open: 12 comes before 13
     ∷ row (answer-number (first-no (grant-questions 1 (step (plan-of plan-a) (grants 1) (fresh-with 65534)))) ∷ []) (12 ∷ [])
     -- piece 0 in worker 0's line, and not as an orphan
@@ -270,9 +276,12 @@ grant-rows =
     -- withdrawn lines in rising worker order
     ∷ row (placed (seven 1) (grants 1 ∷ ticks (0 ∷ []) ∷ grants 2 ∷ ticks (0 ∷ 0 ∷ []) ∷ grants 0 ∷ [])) (2 ∷ 3 ∷ 4 ∷ 1 ∷ 2 ∷ [])
     -- a worker that comes back has an empty line
-    ∷ row (placed (seven 1) (grants 1 ∷ ticks (0 ∷ []) ∷ grants 2 ∷ ticks (0 ∷ 0 ∷ []) ∷ grants 0 ∷ ticks [] ∷ grants 1 ∷ [])) (0 ∷ 2 ∷ 3 ∷ 4 ∷ 1 ∷ 2 ∷ [])
+    ∷ row (placed (seven 1) (grants 1 ∷ ticks (0 ∷ []) ∷ grants 2 ∷ ticks (0 ∷ 0 ∷ []) ∷ grants 0 ∷ ticks [] ∷ grants 1 ∷ []))
+    (0 ∷ 2 ∷ 3 ∷ 4 ∷ 1 ∷ 2 ∷ [])
     -- the oldest orphan is picked up, whole
-    ∷ row (placed (seven 1) (grants 1 ∷ ticks (0 ∷ []) ∷ grants 2 ∷ ticks (0 ∷ 0 ∷ []) ∷ grants 0 ∷ ticks [] ∷ grants 1 ∷ ticks (0 ∷ []) ∷ [])) (2 ∷ 3 ∷ 4 ∷ 1 ∷ 2 ∷ [])
+    ∷ row (placed (seven 1)
+    (grants 1 ∷ ticks (0 ∷ []) ∷ grants 2 ∷ ticks (0 ∷ 0 ∷ []) ∷ grants 0 ∷ ticks [] ∷ grants 1 ∷ ticks (0 ∷ []) ∷ []))
+    (2 ∷ 3 ∷ 4 ∷ 1 ∷ 2 ∷ [])
     -- an empty line of a withdrawn worker vanishes
     ∷ row (placed (chain 2 80 1 4) (grants 1 ∷ ticks (0 ∷ []) ∷ grants 2 ∷ ticks (0 ∷ 0 ∷ []) ∷ grants 0 ∷ [])) (1 ∷ 2 ∷ [])
     -- a new worker has an empty line
@@ -283,13 +292,16 @@ grant-rows =
 tick-rows : List Row
 tick-rows =
     -- a choice is asked of a worker that works, too
-    row (answered plan-a [] (ticks []) ++ flatMap (answered plan-a (grants 1 ∷ [])) (ticks [] ∷ ticks (9 ∷ 9 ∷ []) ∷ ticks (1 ∷ []) ∷ ticks (0 ∷ []) ∷ [])) (15 ∷ 16 ∷ 16 ∷ 17 ∷ 0 ∷ [])
+    row (answered plan-a [] (ticks [])
+    ++ flatMap (answered plan-a (grants 1 ∷ [])) (ticks [] ∷ ticks (9 ∷ 9 ∷ []) ∷ ticks (1 ∷ []) ∷ ticks (0 ∷ []) ∷ []))
+    (15 ∷ 16 ∷ 16 ∷ 17 ∷ 0 ∷ [])
     -- no round is open, and a choice too many for no worker: 15 comes before 16
     ∷ row (answered plan-a [] (ticks (0 ∷ []))) (15 ∷ [])
     -- a refused tick takes no tick of the round: the grant meets 12
     ∷ row (shown plan-a (1 ∷ 0x81 ∷ 5 ∷ 0x81 ∷ 0 ∷ 1 ∷ [])) (1 ∷ 1 ∷ 4 ∷ 1 ∷ 1 ∷ 1 ∷ 0 ∷ 0 ∷ 0 ∷ 2 ∷ [])
     -- "first" is the field, not the smaller number
-    ∷ row (placed (plan-bytes 2 80 2 (task 2 2 1 ∷ task 1 3 0 ∷ task 1 3 0 ∷ task 0 0 0 ∷ [])) (grants 1 ∷ ticks (0 ∷ []) ∷ [])) (2 ∷ 2 ∷ 1 ∷ [])
+    ∷ row (placed (plan-bytes 2 80 2 (task 2 2 1 ∷ task 1 3 0 ∷ task 1 3 0 ∷ task 0 0 0 ∷ [])) (grants 1 ∷ ticks (0 ∷ []) ∷ []))
+    (2 ∷ 2 ∷ 1 ∷ [])
     -- piece 3 waits for 1 and 2
     ∷ row (placed plan-a (grants 1 ∷ ticks (0 ∷ []) ∷ ticks (0 ∷ []) ∷ grants 1 ∷ ticks (0 ∷ []) ∷ [])) (1 ∷ 3 ∷ [])
     -- a line that was just picked up can be robbed
@@ -297,7 +309,9 @@ tick-rows =
     -- .. and neither worked it in that tick
     ∷ row (shown easy-seven (1 ∷ 0x81 ∷ 0 ∷ 0 ∷ 0x80 ∷ 2 ∷ 0x82 ∷ 0 ∷ 0 ∷ [])) (1 ∷ 1 ∷ 7 ∷ 4 ∷ 2 ∷ 1 ∷ 1 ∷ 1 ∷ 1 ∷ 0 ∷ [])
     -- an empty worker picks up an orphan before it steals, though the chosen line has two pieces
-    ∷ row (placed ten (grants 1 ∷ ticks (0 ∷ []) ∷ grants 2 ∷ ticks (0 ∷ 0 ∷ []) ∷ grants 1 ∷ ticks (0 ∷ []) ∷ grants 2 ∷ ticks (0 ∷ 0 ∷ []) ∷ [])) (2 ∷ 6 ∷ 4 ∷ 1 ∷ 2 ∷ [])
+    ∷ row (placed ten
+    (grants 1 ∷ ticks (0 ∷ []) ∷ grants 2 ∷ ticks (0 ∷ 0 ∷ []) ∷ grants 1 ∷ ticks (0 ∷ []) ∷ grants 2 ∷ ticks (0 ∷ 0 ∷ []) ∷ []))
+    (2 ∷ 6 ∷ 4 ∷ 1 ∷ 2 ∷ [])
     ∷ row (shown ten (1 ∷ 0x81 ∷ 0 ∷ 2 ∷ 0x82 ∷ 0 ∷ 0 ∷ 1 ∷ 0x81 ∷ 0 ∷ 2 ∷ 0x82 ∷ 0 ∷ 0 ∷ [])) (1 ∷ 4 ∷ 10 ∷ 4 ∷ 2 ∷ 4 ∷ 1 ∷ 1 ∷ 1 ∷ 0 ∷ [])
     -- a line of one piece is not robbed; and the round was inefficient
     ∷ row (shown (chain 2 80 1 4) (1 ∷ 0x81 ∷ 0 ∷ 2 ∷ 0x82 ∷ 0 ∷ 0 ∷ [])) (1 ∷ 2 ∷ 4 ∷ 1 ∷ 2 ∷ 2 ∷ 0 ∷ 1 ∷ 0 ∷ 0 ∷ [])
@@ -313,23 +327,28 @@ tick-rows =
 quantum-rows : List Row
 quantum-rows =
     -- 140 / 100 rounds to 1
-    row (map (λ u. cond (efficient (plan-of (diamond 2 70 2)) u 1) 1 0) (1 ∷ 2 ∷ [])) (0 ∷ 1 ∷ [])
+    row (map (λ u. cond (efficient (plan-of (diamond 2 70 2) .terms) u 1) 1 0) (1 ∷ 2 ∷ [])) (0 ∷ 1 ∷ [])
     -- 66 / 100 rounds down to 0
-    ∷ row (map (λ u. cond (efficient (plan-of (diamond 2 33 1)) u 2) 1 0) (0 ∷ 1 ∷ [])) (0 ∷ 1 ∷ [])
+    ∷ row (map (λ u. cond (efficient (plan-of (diamond 2 33 1) .terms) u 2) 1 0) (0 ∷ 1 ∷ [])) (0 ∷ 1 ∷ [])
     -- 33 / 100 rounds to the nearest, 0
-    ∷ row (map (λ u. cond (efficient (plan-of (diamond 2 33 1)) u 1) 1 0) (0 ∷ 1 ∷ [])) (0 ∷ 1 ∷ [])
+    ∷ row (map (λ u. cond (efficient (plan-of (diamond 2 33 1) .terms) u 1) 1 0) (0 ∷ 1 ∷ [])) (0 ∷ 1 ∷ [])
     -- a round of 0 is efficient
-    ∷ row (cond (efficient (plan-of plan-a) 0 0) 1 0 ∷ []) (1 ∷ [])
+    ∷ row (cond (efficient (plan-of plan-a .terms) 0 0) 1 0 ∷ []) (1 ∷ [])
     -- it closes inside its last tick; the granted count stays
     ∷ row (shown (chain 2 80 1 4) (1 ∷ 0x81 ∷ 0 ∷ [])) (1 ∷ 1 ∷ 4 ∷ 2 ∷ 1 ∷ 1 ∷ 0 ∷ 0 ∷ 0 ∷ 0 ∷ [])
     -- inefficient divides, also when deprived
-    ∷ row (next-desire (plan-of plan-a) 4 false true ∷ next-desire (plan-of plan-a) 4 false false ∷ next-desire (plan-of plan-a) 4 true false ∷ next-desire (plan-of plan-a) 4 true true ∷ []) (2 ∷ 2 ∷ 4 ∷ 8 ∷ [])
+    ∷ row (next-desire (plan-of plan-a .terms) 4 false true ∷ next-desire (plan-of plan-a .terms) 4 false false
+    ∷ next-desire (plan-of plan-a .terms) 4 true false ∷ next-desire (plan-of plan-a .terms) 4 true true ∷ []) (2 ∷ 2 ∷ 4 ∷ 8 ∷ [])
     -- at the top it stays as it is
-    ∷ row (map (λ r. next-desire (plan-of (diamond r 80 2)) (getD top-desires (r - 2) 0) true true) (2 ∷ 3 ∷ 4 ∷ 5 ∷ 6 ∷ 7 ∷ [])) (64 ∷ 27 ∷ 64 ∷ 25 ∷ 36 ∷ 49 ∷ [])
+    ∷ row (map (λ r. next-desire (plan-of (diamond r 80 2) .terms) (getD top-desires (r - 2) 0) true true) (2 ∷ 3 ∷ 4 ∷ 5 ∷ 6 ∷ 7 ∷ []))
+    (64 ∷ 27 ∷ 64 ∷ 25 ∷ 36 ∷ 49 ∷ [])
     -- 64 itself is allowed
-    ∷ row (next-desire (plan-of plan-a) 32 true true ∷ next-desire (plan-of (diamond 4 80 2)) 16 true true ∷ []) (64 ∷ 64 ∷ [])
+    ∷ row (next-desire (plan-of plan-a .terms) 32 true true ∷ next-desire (plan-of (diamond 4 80 2) .terms) 16 true true ∷ [])
+    (64 ∷ 64 ∷ [])
     -- example 2: three closed rounds, the one that never closes, the order of work
-    ∷ row (history-shown plan-a (grants 1 ∷ ticks (0 ∷ []) ∷ ticks (0 ∷ []) ∷ grants 0 ∷ ticks [] ∷ ticks [] ∷ grants 1 ∷ ticks (0 ∷ []) ∷ ticks (0 ∷ []) ∷ grants 1 ∷ ticks (0 ∷ []) ∷ [])) (1 ∷ 1 ∷ 1 ∷ 1 ∷ 2 ∷ 0 ∷ 1 ∷ 0 ∷ 2 ∷ 1 ∷ 1 ∷ 0 ∷ 2 ∷ 1 ∷ 0 ∷ 1 ∷ 2 ∷ 3 ∷ [])
+    ∷ row (history-shown plan-a
+    (grants 1 ∷ ticks (0 ∷ []) ∷ ticks (0 ∷ []) ∷ grants 0 ∷ ticks [] ∷ ticks [] ∷ grants 1 ∷ ticks (0 ∷ []) ∷ ticks (0 ∷ []) ∷ grants 1
+    ∷ ticks (0 ∷ []) ∷ [])) (1 ∷ 1 ∷ 1 ∷ 1 ∷ 2 ∷ 0 ∷ 1 ∷ 0 ∷ 2 ∷ 1 ∷ 1 ∷ 0 ∷ 2 ∷ 1 ∷ 0 ∷ 1 ∷ 2 ∷ 3 ∷ [])
     ∷ []
 
 -- log, status, label, count line
@@ -341,35 +360,51 @@ log-rows =
     ∷ row (shown plan-a (0x01 ∷ 0xff ∷ [] ++ replicate 127 0 ++ (0x81 ∷ 0x00 ∷ []))) (1 ∷ 1 ∷ 4 ∷ 1 ∷ 1 ∷ 1 ∷ 0 ∷ 0 ∷ 0 ∷ 1 ∷ [])
     -- a grant byte is read as it stands
     ∷ row (shown plan-a (0x7f ∷ 0x41 ∷ [])) (0 ∷ 0 ∷ 4 ∷ 1 ∷ 0 ∷ 0 ∷ 0 ∷ 0 ∷ 0 ∷ 2 ∷ [])
-    ∷ row (answer-number (log-answer (1 ∷ 0x81 ∷ [])) ∷ answer-number (log-answer (1 ∷ 0x82 ∷ 0 ∷ [])) ∷ answer-number (log-answer (1 ∷ 0x80 ∷ [])) ∷ answer-number (log-answer []) ∷ []) (18 ∷ 18 ∷ 0 ∷ 0 ∷ [])
+    ∷ row (answer-number (log-answer (1 ∷ 0x81 ∷ [])) ∷ answer-number (log-answer (1 ∷ 0x82 ∷ 0 ∷ []))
+    ∷ answer-number (log-answer (1 ∷ 0x80 ∷ [])) ∷ answer-number (log-answer []) ∷ []) (18 ∷ 18 ∷ 0 ∷ 0 ∷ [])
     -- a broken entry is not counted, nor asked 11
     ∷ row (shown (one-task 2) (1 ∷ 0x81 ∷ 0 ∷ 0x82 ∷ 0 ∷ [])) (3 ∷ 1 ∷ 1 ∷ 1 ∷ 1 ∷ 1 ∷ 0 ∷ 0 ∷ 0 ∷ 0 ∷ [])
     -- a log runs from any record; the refused count is its own
     ∷ row (shown-twice plan-a (2 ∷ 1 ∷ 0x81 ∷ 0 ∷ []) (1 ∷ 0x81 ∷ 0 ∷ [])) (1 ∷ 2 ∷ 4 ∷ 2 ∷ 1 ∷ 2 ∷ 0 ∷ 0 ∷ 0 ∷ 1 ∷ [])
     -- status in the order 3, 0, 2, 1
-    ∷ row (statuses plan-a (grants 0 ∷ ticks [] ∷ ticks [] ∷ grants 1 ∷ ticks (0 ∷ []) ∷ ticks (0 ∷ []) ∷ grants 0 ∷ ticks [] ∷ ticks [] ∷ grants 2 ∷ ticks (0 ∷ 0 ∷ []) ∷ ticks (0 ∷ 0 ∷ []) ∷ grants 1 ∷ ticks (0 ∷ []) ∷ [])) (0 ∷ 0 ∷ 0 ∷ 0 ∷ 1 ∷ 1 ∷ 1 ∷ 2 ∷ 2 ∷ 2 ∷ 1 ∷ 1 ∷ 1 ∷ 1 ∷ 3 ∷ [])
+    ∷ row (statuses plan-a
+    (grants 0 ∷ ticks [] ∷ ticks [] ∷ grants 1 ∷ ticks (0 ∷ []) ∷ ticks (0 ∷ []) ∷ grants 0 ∷ ticks [] ∷ ticks [] ∷ grants 2
+    ∷ ticks (0 ∷ 0 ∷ []) ∷ ticks (0 ∷ 0 ∷ []) ∷ grants 1 ∷ ticks (0 ∷ []) ∷ []))
+    (0 ∷ 0 ∷ 0 ∷ 0 ∷ 1 ∷ 1 ∷ 1 ∷ 2 ∷ 2 ∷ 2 ∷ 1 ∷ 1 ∷ 1 ∷ 1 ∷ 3 ∷ [])
     -- an empty line is a line; lines past the fourth are passed over
-    ∷ row (flatMap (labelled (97 ∷ 10 ∷ 10 ∷ 98 ∷ 99 ∷ 10 ∷ 100 ∷ 10 ∷ 120 ∷ 10 ∷ 121 ∷ [])) (below 4)) (0 ∷ 0 ∷ 1 ∷ 97 ∷ 0 ∷ 2 ∷ 0 ∷ 0 ∷ 3 ∷ 2 ∷ 98 ∷ 99 ∷ 0 ∷ 6 ∷ 1 ∷ 100 ∷ [])
+    ∷ row (flatMap (labelled (97 ∷ 10 ∷ 10 ∷ 98 ∷ 99 ∷ 10 ∷ 100 ∷ 10 ∷ 120 ∷ 10 ∷ 121 ∷ [])) (below 4))
+    (0 ∷ 0 ∷ 1 ∷ 97 ∷ 0 ∷ 2 ∷ 0 ∷ 0 ∷ 3 ∷ 2 ∷ 98 ∷ 99 ∷ 0 ∷ 6 ∷ 1 ∷ 100 ∷ [])
     -- a stretch without its end is no line
     ∷ row (flatMap (labelled (97 ∷ 10 ∷ 98 ∷ [])) (below 4)) (0 ∷ 0 ∷ 1 ∷ 97 ∷ 19 ∷ 0 ∷ 0 ∷ 19 ∷ 0 ∷ 0 ∷ 19 ∷ 0 ∷ 0 ∷ [])
     ∷ row (labelled [] 0 ++ labelled (10 ∷ []) 0) (19 ∷ 0 ∷ 0 ∷ 0 ∷ 0 ∷ 0 ∷ [])
-    ∷ row (flatMap decimal (0 ∷ 9 ∷ 10 ∷ 109 ∷ 18446744073709551615 ∷ [])) (48 ∷ 57 ∷ 49 ∷ 48 ∷ 49 ∷ 48 ∷ 57 ∷ 49 ∷ 56 ∷ 52 ∷ 52 ∷ 54 ∷ 55 ∷ 52 ∷ 52 ∷ 48 ∷ 55 ∷ 51 ∷ 55 ∷ 48 ∷ 57 ∷ 53 ∷ 53 ∷ 49 ∷ 54 ∷ 49 ∷ 53 ∷ [])
+    ∷ row (flatMap decimal (0 ∷ 9 ∷ 10 ∷ 109 ∷ 18446744073709551615 ∷ []))
+    (48 ∷ 57 ∷ 49 ∷ 48 ∷ 49 ∷ 48 ∷ 57 ∷ 49 ∷ 56 ∷ 52 ∷ 52 ∷ 54 ∷ 55 ∷ 52 ∷ 52 ∷ 48 ∷ 55 ∷ 51 ∷ 55 ∷ 48 ∷ 57 ∷ 53 ∷ 53 ∷ 49 ∷ 54 ∷ 49
+    ∷ 53 ∷ [])
     -- bytes after the line do not change
-    ∷ row (buffer-after (plan-of plan-a) (fresh (plan-of plan-a)) 0 (replicate 130 7)) (48 ∷ 32 ∷ 48 ∷ 32 ∷ 52 ∷ 32 ∷ 49 ∷ 32 ∷ 48 ∷ 32 ∷ 48 ∷ 32 ∷ 48 ∷ 32 ∷ 48 ∷ 32 ∷ 48 ∷ 32 ∷ 48 ∷ 10 ∷ replicate 110 7)
+    ∷ row (buffer-after (plan-of plan-a) (fresh (plan-of plan-a)) 0 (replicate 130 7))
+    (48 ∷ 32 ∷ 48 ∷ 32 ∷ 52 ∷ 32 ∷ 49 ∷ 32 ∷ 48 ∷ 32 ∷ 48 ∷ 32 ∷ 48 ∷ 32 ∷ 48 ∷ 32 ∷ 48 ∷ 32 ∷ 48 ∷ 10 ∷ replicate 110 7)
     -- 20 asks the buffer's length
-    ∷ row (length (keep (λ b. eqb b 7) (buffer-after (plan-of plan-a) (fresh (plan-of plan-a)) 0 (replicate 127 7))) ∷ answer-number (counters-answer (replicate 127 7)) ∷ answer-number (counters-answer (replicate 128 7)) ∷ []) (127 ∷ 20 ∷ 0 ∷ [])
+    ∷ row (length (keep (λ b. eqb b 7) (buffer-after (plan-of plan-a) (fresh (plan-of plan-a)) 0 (replicate 127 7)))
+    ∷ answer-number (counters-answer (replicate 127 7)) ∷ answer-number (counters-answer (replicate 128 7)) ∷ []) (127 ∷ 20 ∷ 0 ∷ [])
     ∷ []
 
 -- the program
 program-rows : List Row
 program-rows =
-    row (program [] ++ program (0 ∷ []) ++ program (0 ∷ 1 ∷ []) ++ program (0 ∷ 0 ∷ [])) (114 ∷ 101 ∷ 102 ∷ 117 ∷ 115 ∷ 101 ∷ 100 ∷ 32 ∷ 50 ∷ 50 ∷ 10 ∷ 114 ∷ 101 ∷ 102 ∷ 117 ∷ 115 ∷ 101 ∷ 100 ∷ 32 ∷ 50 ∷ 50 ∷ 10 ∷ 114 ∷ 101 ∷ 102 ∷ 117 ∷ 115 ∷ 101 ∷ 100 ∷ 32 ∷ 50 ∷ 50 ∷ 10 ∷ 114 ∷ 101 ∷ 102 ∷ 117 ∷ 115 ∷ 101 ∷ 100 ∷ 32 ∷ 49 ∷ 10 ∷ [])
-    ∷ row (program (replicate 65536 0) ++ program (replicate 65537 0)) (114 ∷ 101 ∷ 102 ∷ 117 ∷ 115 ∷ 101 ∷ 100 ∷ 32 ∷ 49 ∷ 10 ∷ 114 ∷ 101 ∷ 102 ∷ 117 ∷ 115 ∷ 101 ∷ 100 ∷ 32 ∷ 50 ∷ 49 ∷ 10 ∷ [])
-    ∷ row (program (0 ∷ 17 ∷ [] ++ plan-a)) (48 ∷ 32 ∷ 48 ∷ 32 ∷ 52 ∷ 32 ∷ 49 ∷ 32 ∷ 48 ∷ 32 ∷ 48 ∷ 32 ∷ 48 ∷ 32 ∷ 48 ∷ 32 ∷ 48 ∷ 32 ∷ 48 ∷ 10 ∷ [])
+    row (program [] ++ program (0 ∷ []) ++ program (0 ∷ 1 ∷ []) ++ program (0 ∷ 0 ∷ []))
+    (114 ∷ 101 ∷ 102 ∷ 117 ∷ 115 ∷ 101 ∷ 100 ∷ 32 ∷ 50 ∷ 50 ∷ 10 ∷ 114 ∷ 101 ∷ 102 ∷ 117 ∷ 115 ∷ 101 ∷ 100 ∷ 32 ∷ 50 ∷ 50 ∷ 10 ∷ 114
+    ∷ 101 ∷ 102 ∷ 117 ∷ 115 ∷ 101 ∷ 100 ∷ 32 ∷ 50 ∷ 50 ∷ 10 ∷ 114 ∷ 101 ∷ 102 ∷ 117 ∷ 115 ∷ 101 ∷ 100 ∷ 32 ∷ 49 ∷ 10 ∷ [])
+    ∷ row (program (replicate 65536 0) ++ program (replicate 65537 0))
+    (114 ∷ 101 ∷ 102 ∷ 117 ∷ 115 ∷ 101 ∷ 100 ∷ 32 ∷ 49 ∷ 10 ∷ 114 ∷ 101 ∷ 102 ∷ 117 ∷ 115 ∷ 101 ∷ 100 ∷ 32 ∷ 50 ∷ 49 ∷ 10 ∷ [])
+    ∷ row (program (0 ∷ 17 ∷ [] ++ plan-a))
+    (48 ∷ 32 ∷ 48 ∷ 32 ∷ 52 ∷ 32 ∷ 49 ∷ 32 ∷ 48 ∷ 32 ∷ 48 ∷ 32 ∷ 48 ∷ 32 ∷ 48 ∷ 32 ∷ 48 ∷ 32 ∷ 48 ∷ 10 ∷ [])
     -- after 18 the count line first
-    ∷ row (program (0 ∷ 17 ∷ [] ++ plan-a ++ (1 ∷ 0x81 ∷ []))) (49 ∷ 32 ∷ 48 ∷ 32 ∷ 52 ∷ 32 ∷ 49 ∷ 32 ∷ 49 ∷ 32 ∷ 48 ∷ 32 ∷ 48 ∷ 32 ∷ 48 ∷ 32 ∷ 48 ∷ 32 ∷ 48 ∷ 10 ∷ 114 ∷ 101 ∷ 102 ∷ 117 ∷ 115 ∷ 101 ∷ 100 ∷ 32 ∷ 49 ∷ 56 ∷ 10 ∷ [])
+    ∷ row (program (0 ∷ 17 ∷ [] ++ plan-a ++ (1 ∷ 0x81 ∷ [])))
+    (49 ∷ 32 ∷ 48 ∷ 32 ∷ 52 ∷ 32 ∷ 49 ∷ 32 ∷ 49 ∷ 32 ∷ 48 ∷ 32 ∷ 48 ∷ 32 ∷ 48 ∷ 32 ∷ 48 ∷ 32 ∷ 48 ∷ 10 ∷ 114 ∷ 101 ∷ 102 ∷ 117 ∷ 115
+    ∷ 101 ∷ 100 ∷ 32 ∷ 49 ∷ 56 ∷ 10 ∷ [])
     -- with a refused plan nothing of the log is looked at
-    ∷ row (program (0 ∷ 16 ∷ [] ++ plan-a) ++ program (0 ∷ 18 ∷ [] ++ plan-a)) (114 ∷ 101 ∷ 102 ∷ 117 ∷ 115 ∷ 101 ∷ 100 ∷ 32 ∷ 54 ∷ 10 ∷ 114 ∷ 101 ∷ 102 ∷ 117 ∷ 115 ∷ 101 ∷ 100 ∷ 32 ∷ 50 ∷ 50 ∷ 10 ∷ [])
+    ∷ row (program (0 ∷ 16 ∷ [] ++ plan-a) ++ program (0 ∷ 18 ∷ [] ++ plan-a))
+    (114 ∷ 101 ∷ 102 ∷ 117 ∷ 115 ∷ 101 ∷ 100 ∷ 32 ∷ 54 ∷ 10 ∷ 114 ∷ 101 ∷ 102 ∷ 117 ∷ 115 ∷ 101 ∷ 100 ∷ 32 ∷ 50 ∷ 50 ∷ 10 ∷ [])
     ∷ []
 
 our-rows : List Row

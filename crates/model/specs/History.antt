@@ -2,10 +2,11 @@
 use mathlib.Core.Bool.{Bool, true, false, cond}
 use mathlib.Core.List.{List, [], _∷_, _++_}
 use Prim.Native.Nat.{ℕ}
-use Rattle.model.specs.Questions.{Answer, by-answer}
+use Rattle.model.specs.Questions.{by-answer}
 use Rattle.model.specs.Plan.{Plan}
 use Rattle.model.specs.Machine.{State, allotment, fresh, grant, tick, ticked, closes, efficient, satisfied}
-use Rattle.model.specs.Machine.{Cycle, works-on, mugs-deque, steals-from, steals-nothing, cycles-made, Call, grants, ticks, call-answer}
+use Rattle.model.specs.Machine.{Cycle, works-on, mugs-deque, steals-from, steals-nothing, cycles-made, Call, grants, ticks}
+use Rattle.model.specs.Machine.{call-answer}
 
 -- a closed quantum (round): its wanted and granted counts, "and, once closed, efficient or not and satisfied or not"
 pub record ClosedQuantum : Type 0 where
@@ -46,7 +47,7 @@ verdict plan (begun-with wanted granted) usage =
     record {
       wanted = wanted;
       granted = granted;
-      was-efficient = efficient plan usage granted;
+      was-efficient = efficient (plan .terms) usage granted;
       was-satisfied = satisfied wanted granted;
     }
     ∷ []
@@ -59,7 +60,7 @@ history-tick plan choices h =
       state = tick plan choices (h .state);
       closed-quanta = cond (closes plan after) (h .closed-quanta ++ judged) (h .closed-quanta);
       current = cond (closes plan after) none (h .current);
-      made = h .made ++ cycles-made plan 0 choices (h .state .execution);
+      made = h .made ++ cycles-made (plan .graph) 0 choices (h .state .execution);
     }
 
 -- "A call moves it by Grant, Tick and Round's end"

@@ -4,7 +4,7 @@ use mathlib.Core.List.{List, [], _∷_, _++_}
 use Prim.Native.Nat.{ℕ, zero, suc, _+_, _-_}
 use lib.Dec.{leb, ltb}
 use lib.ListN.{length, take, drop}
-use Rattle.model.specs.Questions.{Answer, accepted, refused, ask, first-no}
+use Rattle.model.specs.Questions.{Answer, accepted, refused, ask}
 use Rattle.model.specs.Plan.{Plan}
 use Rattle.model.specs.Machine.{State, Call, grants, ticks, call-answer, step}
 

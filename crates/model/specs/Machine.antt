@@ -1,12 +1,12 @@
 -- Document 01, "Grant", "Tick" and "Round's end": what a job is, and how a grant and a tick move it.
 use mathlib.Core.Bool.{Bool, true, false, cond, not, _&&_}
 use mathlib.Core.List.{List, [], _∷_, _++_, tail}
-use Prim.Native.Nat.{ℕ, zero, suc, _+_, _-_, _*_, _/_, _^_}
+use Prim.Native.Nat.{ℕ, suc, _+_, _-_, _*_, _/_, _^_}
 use lib.Dec.{leb, ltb, eqb}
 use lib.ListN.{length, getD, take, drop, set, replicate}
 use Rattle.model.specs.Tests.{every, keep, is-empty, count-set, all-set}
 use Rattle.model.specs.Questions.{Question, ask, Answer, first-no, by-answer}
-use Rattle.model.specs.Plan.{Plan, tasks, successors-of, predecessors}
+use Rattle.model.specs.Plan.{Plan, Terms, Graph, tasks, successors-of, predecessors}
 
 -- ---- what a job is
 
@@ -71,7 +71,7 @@ no-counts =
 unfoldable pub fresh : Plan → State
 fresh plan =
     record {
-      execution = record { worked = replicate (tasks plan) false; deques = []; muggable = []; counts = no-counts };
+      execution = record { worked = replicate (tasks (plan .graph)) false; deques = []; muggable = []; counts = no-counts };
       started = false;
       desire = 1;
       quantum = idle;
@@ -171,16 +171,16 @@ unfoldable pub cycle-of : ℕ → ℕ → Execution → Cycle
 cycle-of w choice e = decided (deque-of e w) (e .muggable) choice (deque-of e choice)
 
 -- "A piece is ready when every piece before it is worked."
-unfoldable pub ready : Plan → List Bool → ℕ → Bool
-ready plan worked t = every (λ p. getD worked p false) (predecessors plan t)
+unfoldable pub ready : Graph → List Bool → ℕ → Bool
+ready graph worked t = every (λ p. getD worked p false) (predecessors graph t)
 
 -- a work tick completes its task
 abbrev pub completed : ℕ → List Bool → List Bool
 completed t worked = set worked t true
 
 -- "its followers that became ready", in the order of their fields
-unfoldable pub released : Plan → List Bool → ℕ → List ℕ
-released plan worked t = keep (ready plan worked) (successors-of plan t)
+unfoldable pub released : Graph → List Bool → ℕ → List ℕ
+released graph worked t = keep (ready graph worked) (successors-of graph t)
 
 -- how many tasks a steal takes from the back of a deque of n
 abbrev pub stolen-count : ℕ → ℕ
@@ -225,11 +225,11 @@ counted-steal success c =
     }
 
 -- "The front piece is worked and leaves. Of its followers that became ready, the second goes to the front, then the first before it."
-unfoldable pub work-cycle : Plan → ℕ → ℕ → Execution → Execution
-work-cycle plan w t e =
+unfoldable pub work-cycle : Graph → ℕ → ℕ → Execution → Execution
+work-cycle graph w t e =
     record {
       worked = completed t (e .worked);
-      deques = set (e .deques) w (released plan (completed t (e .worked)) t ++ tail (deque-of e w));
+      deques = set (e .deques) w (released graph (completed t (e .worked)) t ++ tail (deque-of e w));
       muggable = e .muggable;
       counts = counted-work (e .counts);
     }
@@ -259,32 +259,32 @@ unfoldable pub failed-steal : Execution → Execution
 failed-steal e =
     record { worked = e .worked; deques = e .deques; muggable = e .muggable; counts = counted-steal 0 (e .counts) }
 
-abbrev pub performed : Plan → ℕ → Cycle → Execution → Execution
-performed plan w (works-on t) e = work-cycle plan w t e
-performed plan w (mugs-deque oldest) e = mug-cycle w oldest e
-performed plan w (steals-from victim) e = successful-steal w victim e
-performed plan w steals-nothing e = failed-steal e
+abbrev pub performed : Graph → ℕ → Cycle → Execution → Execution
+performed graph w (works-on t) e = work-cycle graph w t e
+performed graph w (mugs-deque oldest) e = mug-cycle w oldest e
+performed graph w (steals-from victim) e = successful-steal w victim e
+performed graph w steals-nothing e = failed-steal e
 
 -- one cycle of worker w
-unfoldable pub cycle : Plan → ℕ → ℕ → Execution → Execution
-cycle plan w choice e = performed plan w (cycle-of w choice e) e
+unfoldable pub cycle : Graph → ℕ → ℕ → Execution → Execution
+cycle graph w choice e = performed graph w (cycle-of w choice e) e
 
 -- what the workers do that come after the one that finished the job: "later workers take no cycle"
 abbrev pub after-the-finish : List ℕ → Execution → Execution
 after-the-finish choices e = e
 
 -- "Workers act in number order, one cycle each", from worker w on, a choice each; "the job is finished and the tick ends there"
-unfoldable pub cycles : Plan → ℕ → List ℕ → Execution → Execution
-cycles plan w [] e = e
-cycles plan w (choice ∷ choices) e =
-    let onward = cycles plan (suc w) choices (cycle plan w choice e) in
+unfoldable pub cycles : Graph → ℕ → List ℕ → Execution → Execution
+cycles graph w [] e = e
+cycles graph w (choice ∷ choices) e =
+    let onward = cycles graph (suc w) choices (cycle graph w choice e) in
     cond (finished e) (after-the-finish (choice ∷ choices) e) onward
 
 -- the same cycles, as what each worker did
-unfoldable pub cycles-made : Plan → ℕ → List ℕ → Execution → List Cycle
-cycles-made plan w [] e = []
-cycles-made plan w (choice ∷ choices) e =
-    let onward = cycle-of w choice e ∷ cycles-made plan (suc w) choices (cycle plan w choice e) in
+unfoldable pub cycles-made : Graph → ℕ → List ℕ → Execution → List Cycle
+cycles-made graph w [] e = []
+cycles-made graph w (choice ∷ choices) e =
+    let onward = cycle-of w choice e ∷ cycles-made graph (suc w) choices (cycle graph w choice e) in
     cond (finished e) [] onward
 
 abbrev pub ticks-of : Quantum → ℕ
@@ -295,7 +295,7 @@ ticks-of (opened ticks) = ticks
 unfoldable pub ticked : Plan → List ℕ → State → State
 ticked plan choices s =
     record {
-      execution = cycles plan 0 choices (s .execution);
+      execution = cycles (plan .graph) 0 choices (s .execution);
       started = s .started;
       desire = s .desire;
       quantum = opened (suc (ticks-of (s .quantum)));
@@ -305,8 +305,8 @@ ticked plan choices s =
 -- ---- Round's end
 
 -- "It is efficient when 100 × u is at least D × L × g"
-unfoldable pub efficient : Plan → ℕ → ℕ → Bool
-efficient plan usage granted = leb (plan .utilization * plan .quantum-length * granted) (100 * usage)
+unfoldable pub efficient : Terms → ℕ → ℕ → Bool
+efficient terms usage granted = leb (terms .utilization * terms .quantum-length * granted) (100 * usage)
 
 -- "satisfied when g equals the wanted count"
 unfoldable pub satisfied : ℕ → ℕ → Bool
@@ -317,25 +317,25 @@ abbrev pub most-workers : ℕ
 most-workers = 64
 
 -- "wanted is divided by R"
-abbrev pub lowered : Plan → ℕ → ℕ
-lowered plan desire = desire / plan .responsiveness
+abbrev pub lowered : Terms → ℕ → ℕ
+lowered terms desire = desire / terms .responsiveness
 
 -- "multiplied by R, unless that exceeds 64"
-abbrev pub raised : Plan → ℕ → ℕ
-raised plan desire = cond (leb (desire * plan .responsiveness) most-workers) (desire * plan .responsiveness) desire
+abbrev pub raised : Terms → ℕ → ℕ
+raised terms desire = cond (leb (desire * terms .responsiveness) most-workers) (desire * terms .responsiveness) desire
 
 -- the three cases: inefficient; efficient and satisfied; efficient and deprived
-unfoldable pub next-desire : Plan → ℕ → Bool → Bool → ℕ
-next-desire plan desire false satisfied = lowered plan desire
-next-desire plan desire true true = raised plan desire
-next-desire plan desire true false = desire
+unfoldable pub next-desire : Terms → ℕ → Bool → Bool → ℕ
+next-desire terms desire false satisfied = lowered terms desire
+next-desire terms desire true true = raised terms desire
+next-desire terms desire true false = desire
 
 -- "After L ticks of an unfinished job the round closes."
 unfoldable pub closes : Plan → State → Bool
-closes plan s = not (finished (s .execution)) && eqb (ticks-of (s .quantum)) (plan .quantum-length)
+closes plan s = not (finished (s .execution)) && eqb (ticks-of (s .quantum)) (plan .terms .quantum-length)
 
 abbrev pub efficient-now : Plan → State → Bool
-efficient-now plan s = efficient plan (s .execution .counts .usage) (allotment s)
+efficient-now plan s = efficient (plan .terms) (s .execution .counts .usage) (allotment s)
 
 abbrev pub satisfied-now : State → Bool
 satisfied-now s = satisfied (s .desire) (allotment s)
@@ -345,7 +345,7 @@ closed plan s =
     record {
       execution = s .execution;
       started = s .started;
-      desire = next-desire plan (s .desire) (efficient-now plan s) (satisfied-now s);
+      desire = next-desire (plan .terms) (s .desire) (efficient-now plan s) (satisfied-now s);
       quantum = idle;
       begun = s .begun;
     }

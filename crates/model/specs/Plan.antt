@@ -9,26 +9,42 @@ use Rattle.model.specs.Questions.{Question, ask, Answer, first-no}
 
 -- ---- the plan
 
--- A plan: tasks (document 01: pieces) numbered from 0, each with its successors (followers) in the order of their fields.
-pub record Plan : Type 0 where
+-- what the ticks and the end of every quantum (round) go by
+pub record Terms : Type 0 where
   pub responsiveness : ℕ  -- R
   pub utilization : ℕ  -- D, in percent
-  pub quantum-length : ℕ  -- L, ticks of a quantum (round)
+  pub quantum-length : ℕ  -- L, ticks of a quantum
+
+-- what the workers' cycles go by: tasks (document 01: pieces) numbered from 0, each with its successors (followers) in the order of their
+-- fields
+pub record Graph : Type 0 where
   pub successors : List (List ℕ)  -- of each task, by its number
 
+pub record Plan : Type 0 where
+  pub terms : Terms
+  pub graph : Graph
+
 -- N, the number of tasks
-abbrev pub tasks : Plan → ℕ
-tasks plan = length (plan .successors)
+abbrev pub tasks : Graph → ℕ
+tasks graph = length (graph .successors)
 
 -- the successors (followers) of the task t
-abbrev pub successors-of : Plan → ℕ → List ℕ
-successors-of plan t = getD (plan .successors) t []
+abbrev pub successors-of : Graph → ℕ → List ℕ
+successors-of graph t = getD (graph .successors) t []
 
 -- "A piece is before its own followers and before no other piece": the predecessors of the task t
-unfoldable pub predecessors : Plan → ℕ → List ℕ
-predecessors plan t = keep (λ p. member t (successors-of plan p)) (below (tasks plan))
+unfoldable pub predecessors : Graph → ℕ → List ℕ
+predecessors graph t = keep (λ p. member t (successors-of graph p)) (below (tasks graph))
 
 -- ---- the plan's bits
+
+-- "A plan is 1 to 1,024 pieces"
+abbrev pub most-tasks : ℕ
+most-tasks = 1024
+
+-- the largest L of 16 bits
+abbrev pub longest-quantum : ℕ
+longest-quantum = 65535
 
 -- the number that n bytes make, from the one at a place on, the first byte the most significant
 unfoldable pub number : List ℕ → ℕ → ℕ → ℕ
@@ -85,10 +101,13 @@ successor-fields bytes t = used-fields (count-field bytes t) (first-field bytes 
 unfoldable pub plan-of : List ℕ → Plan
 plan-of bytes =
     record {
-      responsiveness = responsiveness-field bytes;
-      utilization = utilization-field bytes;
-      quantum-length = quantum-length-field bytes;
-      successors = map (successor-fields bytes) (below (task-count bytes));
+      terms =
+          record {
+            responsiveness = responsiveness-field bytes;
+            utilization = utilization-field bytes;
+            quantum-length = quantum-length-field bytes;
+          };
+      graph = record { successors = map (successor-fields bytes) (below (task-count bytes)) };
     }
 
 -- ---- the questions
@@ -118,13 +137,13 @@ task-questions bytes t =
     ∷ []
 
 -- 9: "Has each piece from 1 up one or two pieces before it?"
-unfoldable pub all-preceded : Plan → Bool
-all-preceded plan =
-    every (λ t. leb 1 (length (predecessors plan t)) && leb (length (predecessors plan t)) 2) (drop 1 (below (tasks plan)))
+unfoldable pub all-preceded : Graph → Bool
+all-preceded graph =
+    every (λ t. leb 1 (length (predecessors graph t)) && leb (length (predecessors graph t)) 2) (drop 1 (below (tasks graph)))
 
 -- 10: "Is piece N − 1 the only one without followers?"
-unfoldable pub one-exit : Plan → Bool
-one-exit plan = every (λ t. Bool·beq (is-empty (successors-of plan t)) (eqb (t + 1) (tasks plan))) (below (tasks plan))
+unfoldable pub one-exit : Graph → Bool
+one-exit graph = every (λ t. Bool·beq (is-empty (successors-of graph t)) (eqb (t + 1) (tasks graph))) (below (tasks graph))
 
 unfoldable pub header-questions : List ℕ → List Question
 header-questions bytes =
@@ -136,13 +155,13 @@ header-questions bytes =
     ∷ ask (eqb (length bytes) (5 + 3 * task-count bytes)) 6
     ∷ []
 
-unfoldable pub graph-questions : Plan → List Question
-graph-questions plan = ask (all-preceded plan) 9 ∷ ask (one-exit plan) 10 ∷ []
+unfoldable pub graph-questions : Graph → List Question
+graph-questions graph = ask (all-preceded graph) 9 ∷ ask (one-exit graph) 10 ∷ []
 
 -- "A plan, in this order"
 unfoldable pub plan-questions : List ℕ → List Question
 plan-questions bytes =
-    header-questions bytes ++ flatMap (task-questions bytes) (below (task-count bytes)) ++ graph-questions (plan-of bytes)
+    header-questions bytes ++ flatMap (task-questions bytes) (below (task-count bytes)) ++ graph-questions (plan-of bytes .graph)
 
 unfoldable pub plan-answer : List ℕ → Answer
 plan-answer bytes = first-no (plan-questions bytes)

@@ -1,13 +1,13 @@
 -- Document 01, "Day log and label": the program, from its input's bytes to its output's.
-use mathlib.Core.Bool.{Bool, true, false, cond, _&&_}
+use mathlib.Core.Bool.{true, false, cond, _&&_}
 use mathlib.Core.List.{List, [], _∷_, _++_}
 use Prim.Native.Nat.{ℕ, _+_}
 use lib.Dec.{leb}
 use lib.ListN.{length, take, drop}
 use Rattle.model.specs.Questions.{Question, Answer, accepted, refused, ask, first-no}
 use Rattle.model.specs.Plan.{Plan, number, plan-of, plan-answer}
-use Rattle.model.specs.Machine.{State, fresh}
-use Rattle.model.specs.Log.{Ran, run-log, log-answer}
+use Rattle.model.specs.Machine.{fresh}
+use Rattle.model.specs.Log.{run-log, log-answer}
 use Rattle.model.specs.Counters.{decimal, counters-line}
 
 -- "plan length in 16 bits, plan, log to the end"

@@ -1,42 +1,49 @@
 -- The demands as statements over a plan and a whole list of calls, refused ones included. They are proved in the crate `laws`.
 -- Each is for any responsiveness R of 2 or more, but for those on the table of top desires, which is for an R of 2 to 7.
 use mathlib.Core.Path.{_≡_}
-use mathlib.Core.Bool.{Bool, true, false}
+use mathlib.Core.Bool.{true, false}
 use mathlib.Core.Logic.{_↔_}
 use mathlib.Core.List.{List, [], _∷_, _++_, List·Memᴰ}
 use Prim.Native.Nat.{ℕ, _+_, _*_, _-_, _≤_, _<_}
 use lib.ListN.{length, getD}
-use Rattle.model.specs.Questions.{Answer, accepted}
-use Rattle.model.specs.Plan.{Plan, tasks, successors-of, predecessors}
-use Rattle.model.specs.Machine.{State, Call, ticks, call-answer, allotment, status, desire-at, most-workers, Cycle}
+use Rattle.model.specs.Questions.{accepted}
+use Rattle.model.specs.Plan.{Plan, Terms, Graph, tasks, successors-of, predecessors}
+use Rattle.model.specs.Machine.{State, Call, ticks, call-answer, allotment, status, desire-at, most-workers}
 use Rattle.model.specs.Machine.{ticked, closes, efficient-now, satisfied-now, next-desire, top-desire}
 use Rattle.model.specs.History.{ClosedQuantum, History, run, history-step, work-count, mug-count, work-order}
 
 -- ---- what an accepted plan is: the plan rules, as facts about the plan
 
-pub record SoundPlan (plan : Plan) : Type 0 where
-  pub responsive : 2 ≤ plan .responsiveness
-  pub utilized : 1 ≤ plan .utilization
-  pub percent : plan .utilization ≤ 100
-  pub timed : 1 ≤ plan .quantum-length
-  pub some-task : 1 ≤ tasks plan
+pub record SoundTerms (terms : Terms) : Type 0 where
+  pub responsive : 2 ≤ terms .responsiveness
+  pub utilized : 1 ≤ terms .utilization
+  pub percent : terms .utilization ≤ 100
+  pub timed : 1 ≤ terms .quantum-length
+
+pub record SoundGraph (graph : Graph) : Type 0 where
+  pub some-task : 1 ≤ tasks graph
   -- at most two successors, each above its task's number and below N, and different
-  pub two-at-most : (t : ℕ) → t < tasks plan → length (successors-of plan t) ≤ 2
-  pub upward : (t s : ℕ) → t < tasks plan → List·Memᴰ s (successors-of plan t) → t < s
-  pub inside : (t s : ℕ) → t < tasks plan → List·Memᴰ s (successors-of plan t) → s < tasks plan
-  pub apart : (t a b : ℕ) → t < tasks plan → successors-of plan t ≡ a ∷ b ∷ [] → a ≡ b → ⊥
+  pub two-at-most : (t : ℕ) → t < tasks graph → length (successors-of graph t) ≤ 2
+  pub upward : (t s : ℕ) → t < tasks graph → List·Memᴰ s (successors-of graph t) → t < s
+  pub inside : (t s : ℕ) → t < tasks graph → List·Memᴰ s (successors-of graph t) → s < tasks graph
+  pub apart : (t a b : ℕ) → t < tasks graph → successors-of graph t ≡ a ∷ b ∷ [] → a ≡ b → ⊥
   -- every task from 1 up has one or two predecessors
-  pub preceded : (t : ℕ) → 1 ≤ t → t < tasks plan → 1 ≤ length (predecessors plan t)
-  pub preceded-twice : (t : ℕ) → 1 ≤ t → t < tasks plan → length (predecessors plan t) ≤ 2
+  pub preceded : (t : ℕ) → 1 ≤ t → t < tasks graph → 1 ≤ length (predecessors graph t)
+  pub preceded-twice : (t : ℕ) → 1 ≤ t → t < tasks graph → length (predecessors graph t) ≤ 2
   -- task N − 1 is the only one without successors
-  pub exit-last : (t : ℕ) → t < tasks plan → (successors-of plan t ≡ []) ↔ (t + 1 ≡ tasks plan)
+  pub exit-last : (t : ℕ) → t < tasks graph → (successors-of graph t ≡ []) ↔ (t + 1 ≡ tasks graph)
+
+pub record SoundPlan (plan : Plan) : Type 0 where
+  pub terms : SoundTerms (plan .terms)
+  pub graph : SoundGraph (plan .graph)
 
 -- ---- demand 3
 
 -- M × L × D ≤ 100 × (1 + R) × (W + M)
 abbrev pub MugLimit : Plan → History → Type 0
 MugLimit plan h =
-    mug-count h * plan .quantum-length * plan .utilization ≤ 100 * (1 + plan .responsiveness) * (work-count h + mug-count h)
+    mug-count h * plan .terms .quantum-length * plan .terms .utilization
+    ≤ 100 * (1 + plan .terms .responsiveness) * (work-count h + mug-count h)
 
 abbrev pub no-quantum : ClosedQuantum
 no-quantum = record { wanted = 0; granted = 0; was-efficient = true; was-satisfied = false }
@@ -55,7 +62,7 @@ pub record Pairing (plan : Plan) (quanta : List ClosedQuantum) : Type 0 where
   pub earlier : (i : ℕ) → Inefficient quanta i → partner i < i
   pub efficient : (i : ℕ) → Inefficient quanta i → nth quanta (partner i) .was-efficient ≡ true
   pub satisfied : (i : ℕ) → Inefficient quanta i → nth quanta (partner i) .was-satisfied ≡ true
-  pub wanted : (i : ℕ) → Inefficient quanta i → nth quanta (partner i) .wanted * plan .responsiveness ≡ nth quanta i .wanted
+  pub wanted : (i : ℕ) → Inefficient quanta i → nth quanta (partner i) .wanted * plan .terms .responsiveness ≡ nth quanta i .wanted
   pub unshared : (i j : ℕ) → Inefficient quanta i → Inefficient quanta j → partner i ≡ partner j → i ≡ j
 
 pub record Demand3 (plan : Plan) (calls : List Call) : Type 0 where
@@ -65,23 +72,23 @@ pub record Demand3 (plan : Plan) (calls : List Call) : Type 0 where
 -- where L × D > 100 × (1 + R) the limit bounds the mugs by the work alone
 abbrev pub MugBound : Plan → History → Type 0
 MugBound plan h =
-    100 * (1 + plan .responsiveness) < plan .quantum-length * plan .utilization →
-    mug-count h * (plan .quantum-length * plan .utilization - 100 * (1 + plan .responsiveness))
-    ≤ 100 * (1 + plan .responsiveness) * work-count h
+    100 * (1 + plan .terms .responsiveness) < plan .terms .quantum-length * plan .terms .utilization →
+    mug-count h * (plan .terms .quantum-length * plan .terms .utilization - 100 * (1 + plan .terms .responsiveness))
+    ≤ 100 * (1 + plan .terms .responsiveness) * work-count h
 
 -- ---- its companions
 
 -- "Each piece is worked at most once, after all before it"
 pub record OnceAndInOrder (plan : Plan) (h : History) : Type 0 where
   pub once : (i j : ℕ) → i < length (work-order h) → j < length (work-order h) → getD (work-order h) i 0 ≡ getD (work-order h) j 0 → i ≡ j
-  pub in-order : (i p : ℕ) → i < length (work-order h) → List·Memᴰ p (predecessors plan (getD (work-order h) i 0)) →
+  pub in-order : (i p : ℕ) → i < length (work-order h) → List·Memᴰ p (predecessors (plan .graph) (getD (work-order h) i 0)) →
       (j : ℕ) × (j < i) × (getD (work-order h) j 0 ≡ p)
   -- the tasks that the state shows as worked are those of the order
   pub marked : (t : ℕ) → (getD (h .state .execution .worked) t false ≡ true) ↔ List·Memᴰ t (work-order h)
 
 -- "finished is shown when all pieces are worked and never otherwise"
 abbrev pub FinishedExactly : Plan → History → Type 0
-FinishedExactly plan h = (status (h .state) ≡ 3) ↔ ((t : ℕ) → t < tasks plan → getD (h .state .execution .worked) t false ≡ true)
+FinishedExactly plan h = (status (h .state) ≡ 3) ↔ ((t : ℕ) → t < tasks (plan .graph) → getD (h .state .execution .worked) t false ≡ true)
 
 -- "While a job is unfinished, each tick with a worker granted does at least one work or mug tick."
 abbrev pub Progress : Plan → History → Type 0
@@ -96,7 +103,7 @@ OneIsEfficient quanta = (i : ℕ) → Inefficient quanta i → 1 < nth quanta i 
 -- the wanted count is a power of R, at most 64; so the divisions are exact
 pub record DesireIsPower (plan : Plan) (h : History) : Type 0 where
   pub power : ℕ
-  pub is-power : h .state .desire ≡ desire-at (plan .responsiveness) power
+  pub is-power : h .state .desire ≡ desire-at (plan .terms .responsiveness) power
   pub at-most : h .state .desire ≤ most-workers
 
 -- ---- a quantum's end
@@ -114,7 +121,7 @@ ending plan s =
 -- a history after a quantum's end: the quantum is the last of those closed, and the wanted count moved by its verdict
 pub record Judged (plan : Plan) (before after : History) (q : ClosedQuantum) : Type 0 where
   pub recorded : after .closed-quanta ≡ before .closed-quanta ++ q ∷ []
-  pub moved : after .state .desire ≡ next-desire plan (q .wanted) (q .was-efficient) (q .was-satisfied)
+  pub moved : after .state .desire ≡ next-desire (plan .terms) (q .wanted) (q .was-efficient) (q .was-satisfied)
 
 -- the history judges a quantum by the counts that it kept of it, the state by those that it shows when the quantum closes: they agree
 abbrev pub EndsAsRecorded : Plan → History → Type 0
@@ -134,7 +141,8 @@ pub record TopDesire (responsiveness top : ℕ) : Type 0 where
 -- "So it stops at the largest powers of R up to 64, for R = 2 to 7": the wanted count never exceeds the table's entry; an efficient and
 -- satisfied end multiplies it by R below the entry, and leaves it at the entry
 pub record StopsAtTop (plan : Plan) (h : History) : Type 0 where
-  pub at-most : h .state .desire ≤ top-desire (plan .responsiveness)
-  pub rises : h .state .desire < top-desire (plan .responsiveness) →
-      next-desire plan (h .state .desire) true true ≡ h .state .desire * plan .responsiveness
-  pub stays : h .state .desire ≡ top-desire (plan .responsiveness) → next-desire plan (h .state .desire) true true ≡ h .state .desire
+  pub at-most : h .state .desire ≤ top-desire (plan .terms .responsiveness)
+  pub rises : h .state .desire < top-desire (plan .terms .responsiveness) →
+      next-desire (plan .terms) (h .state .desire) true true ≡ h .state .desire * plan .terms .responsiveness
+  pub stays : h .state .desire ≡ top-desire (plan .terms .responsiveness) →
+      next-desire (plan .terms) (h .state .desire) true true ≡ h .state .desire

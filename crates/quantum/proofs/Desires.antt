@@ -27,10 +27,10 @@ module _ {responsiveness desire top : ℕ} (p : Power responsiveness desire) (is
   pub stays : desire ≡ top → WasRaised responsiveness desire desire
   stays same =
       let none = no-room-at (p .responsive) top-right (p .power) (p .is-power) (p .at-most) same in
-      record { higher = λ plan e. rw (e, lt-leb (desire * responsiveness) most-workers none) }
+      record { higher = λ utilization length. rw (lt-leb (desire * responsiveness) most-workers none) }
 
   pub rises : (desire ≡ top → ⊥) → WasRaised responsiveness desire (desire * responsiveness)
-  rises other = record { higher = λ plan e. rw (e, le-leb (desire * responsiveness) most-workers (room other)) }
+  rises other = record { higher = λ utilization length. rw (le-leb (desire * responsiveness) most-workers (room other)) }
 
 -- ---- a quantum's verdict
 
@@ -41,9 +41,10 @@ owed-fits d l g hd hl hg =
     let paced : d * l ≤ 16711425 = mul-le-mul {n₂ = 255} {m₂ = 65535} (omega arith) (omega arith) in
     (paced, mul-le-mul {n₂ = 16711425} {m₂ = 255} paced (omega arith))
 
-pub judged : (utilization length granted usage : ℕ) → WasEfficient utilization length granted usage (leb (utilization * length * granted) (100 * usage))
+pub judged : (utilization length granted usage : ℕ) →
+    WasEfficient utilization length granted usage (leb (utilization * length * granted) (100 * usage))
 unfolding efficient
-judged d l g u = record { verdict = λ plan p. rw (p .at-utilization, p .at-length) refl }
+judged d l g u = record { verdict = λ responsiveness. refl }
 
 module _ {responsiveness utilization length desire granted usage : ℕ} {verdict : Bool}
     (v : WasEfficient utilization length granted usage verdict) where
@@ -51,16 +52,16 @@ module _ {responsiveness utilization length desire granted usage : ℕ} {verdict
   pub closed-inefficient : {r : ℕ} → verdict ≡ false → r ≡ desire / responsiveness →
       Closed responsiveness utilization length desire granted usage r
   unfolding next-desire
-  closed-inefficient not-efficient lower = record { next = λ plan e p. rw (sym (v .verdict plan p) ∙ not-efficient, e) lower }
+  closed-inefficient not-efficient lower = record { next = rw (sym (v .verdict responsiveness) ∙ not-efficient) lower }
 
   -- "Otherwise it stays."
   pub closed-deprived : verdict ≡ true → (granted ≡ desire → ⊥) → Closed responsiveness utilization length desire granted usage desire
   unfolding next-desire satisfied
-  closed-deprived good other = record { next = λ plan e p. rw (sym (v .verdict plan p) ∙ good, ne-eqb granted desire other) refl }
+  closed-deprived good other = record { next = rw (sym (v .verdict responsiveness) ∙ good, ne-eqb granted desire other) refl }
 
   -- "Efficient and satisfied: multiplied by R, unless that exceeds 64."
   pub closed-satisfied : {r : ℕ} → verdict ≡ true → granted ≡ desire → WasRaised responsiveness desire r →
       Closed responsiveness utilization length desire granted usage r
   unfolding next-desire satisfied
   closed-satisfied good same w =
-      record { next = λ plan e p. rw (sym (v .verdict plan p) ∙ good, eq-eqb granted desire same) (w .higher plan e) }
+      record { next = rw (sym (v .verdict responsiveness) ∙ good, eq-eqb granted desire same) (w .higher utilization length) }

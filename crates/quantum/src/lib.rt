@@ -1,7 +1,8 @@
 // What a quantum's end does to the desire (document 01, "Round's end").
 ghost use mathlib.Core.Path.{_≡_};
-ghost use Prim.Native.Nat.{_/_, _≤_};
-ghost use Rattle.model.specs.Machine.{top-desire};
+ghost use Prim.Native.Nat.{_*_, _/_, _≤_};
+ghost use Rattle.model.specs.Plan.{longest-quantum};
+ghost use Rattle.model.specs.Machine.{most-workers, top-desire};
 ghost use Rattle.quantum.specs.Closing.{Power, Closable, WasEfficient, WasRaised, Closed};
 
 // "So it stops at the largest powers of R up to 64, for R = 2 to 7".
@@ -18,7 +19,7 @@ fn top_desire(responsiveness: u8) -> u8
 
 // "It is efficient when 100 × u is at least D × L × g": exact, with no rounding.
 fn was_efficient(utilization: u8, length: u16, granted: u8, usage: u64) -> bool
-    requires { ⌜ usage ≤ 4194240 ⌝ }
+    requires { ⌜ usage ≤ most-workers * longest-quantum ⌝ }
     ensures { λ r. ⌜ WasEfficient utilization length granted usage r ⌝ }
 {
     let owed = (utilization as u64) * (length as u64) * (granted as u64);

@@ -21,7 +21,9 @@ raised-desire-requires : tie.Need-raised-desire-requires
 raised-desire-requires c κs = search needs
 
 returns-3 : tie.Need-returns-3
-returns-3 c = closed-satisfied (c .before .before .before .was-efficient .ensures) (not-false _ (c .before .before .if1 .left)) (c .before .if2 .left) (c .raised-desire .ensures)
+returns-3 c =
+    closed-satisfied (c .before .before .before .was-efficient .ensures) (not-false _ (c .before .before .if1 .left)) (c .before .if2 .left)
+    (c .raised-desire .ensures)
 
 pub next-desire-spec : {M : Type 1} → statement M
 next-desire-spec =

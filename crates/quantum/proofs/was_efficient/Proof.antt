@@ -8,13 +8,15 @@ use Rattle.quantum.proofs.was_efficient.Tie as tie
 mul-owed : tie.Need-mul-owed
 mul-owed c =
     let a = c .args in
-    let few = owed-fits (a .utilization) (a .length) (a .granted) (c .fits .utilization .fits) (c .fits .length .fits) (c .fits .granted .fits) in
+    let few = owed-fits (a .utilization) (a .length) (a .granted) (c .fits .utilization .fits) (c .fits .length .fits)
+    (c .fits .granted .fits) in
     omega arith
 
 mul-owed-2 : tie.Need-mul-owed-2
 mul-owed-2 c =
     let a = c .args in
-    let few = owed-fits (a .utilization) (a .length) (a .granted) (c .fits .utilization .fits) (c .fits .length .fits) (c .fits .granted .fits) in
+    let few = owed-fits (a .utilization) (a .length) (a .granted) (c .fits .utilization .fits) (c .fits .length .fits)
+    (c .fits .granted .fits) in
     omega arith
 
 mul-result : tie.Need-mul-result

@@ -1,0 +1,94 @@
+-- What is known of a call when its questions let it through, and a tick by whether the quantum closes with it.
+-- Assumes nothing.
+use mathlib.Core.Path.{_≡_, refl}
+use mathlib.Core.Bool.{Bool, true, false, cond, not}
+use mathlib.Core.List.{List}
+use Prim.Native.Nat.{ℕ, _≤_, _<_}
+use native.Mathlib.Omega.{arith}
+use lib.Dec.{leb, ltb, eqb}
+use lib.ListN.{length}
+use borrow.Author.Tests.{ltb-true, leb-true, eqb-true, not-true}
+use Rattle.model.specs.Tests.{every}
+use Rattle.model.specs.Questions.{Answer, accepted, refused, first-no}
+use Rattle.model.specs.Plan.{Plan}
+use Rattle.model.specs.Machine.{State, allotment, finished, Quantum, idle, opened, no-quantum-open, ticks-of, quantum-limit}
+use Rattle.model.specs.Machine.{grant-questions, tick-questions, grants, ticks, call-answer, tick, ticked, closes, closed, cycles}
+use Rattle.lists.proofs.Tests.{true-is-not-false}
+
+-- ---- accepted calls
+
+pub record GrantAccepted (g : ℕ) (s : State) : Type 0 where
+  pub unfinished : finished (s .execution) ≡ false
+  pub idle-quantum : s .quantum ≡ idle
+  pub more-quanta : s .begun < quantum-limit
+  pub wanted : g ≤ s .desire
+
+pub record TickAccepted (choices : List ℕ) (s : State) : Type 0 where
+  pub unfinished : finished (s .execution) ≡ false
+  pub open-quantum : s .quantum ≡ opened (ticks-of (s .quantum))
+  pub one-each : length choices ≡ allotment s
+  pub below-allotment : every (λ choice. ltb choice (allotment s)) choices ≡ true
+
+-- a question that does not refuse
+asked : (b : Bool) (rest : Answer) (n : ℕ) → cond b rest (refused n) ≡ accepted → (b ≡ true) × (rest ≡ accepted)
+asked true rest n h = (refl, h)
+asked false rest n h = let z : _≡_ {A = ℕ} 0 1 = cc in absurd (omega arith)
+
+is-idle : (q : Quantum) → no-quantum-open q ≡ true → q ≡ idle
+is-idle idle h = refl
+is-idle (opened k) h = absurd (true-is-not-false h refl)
+
+is-opened : (q : Quantum) → no-quantum-open q ≡ false → q ≡ opened (ticks-of q)
+is-opened idle h = absurd (true-is-not-false refl h)
+is-opened (opened k) h = refl
+
+pub grant-accepted : (g : ℕ) (s : State) → call-answer (grants g) s ≡ accepted → GrantAccepted g s
+unfolding call-answer grant-questions first-no
+grant-accepted g s h =
+    let first = asked (not (finished (s .execution))) _ 11 h in
+    let second = asked (no-quantum-open (s .quantum)) _ 12 (first .1) in
+    let third = asked (ltb (s .begun) quantum-limit) _ 13 (second .1) in
+    let fourth = asked (leb g (s .desire)) _ 14 (third .1) in
+    record {
+      unfinished = not-true (finished (s .execution)) (first .0);
+      idle-quantum = is-idle (s .quantum) (second .0);
+      more-quanta = ltb-true (s .begun) quantum-limit (third .0);
+      wanted = leb-true g (s .desire) (fourth .0);
+    }
+
+pub tick-accepted : (choices : List ℕ) (s : State) → call-answer (ticks choices) s ≡ accepted → TickAccepted choices s
+unfolding call-answer tick-questions first-no
+tick-accepted choices s h =
+    let first = asked (not (finished (s .execution))) _ 11 h in
+    let second = asked (not (no-quantum-open (s .quantum))) _ 15 (first .1) in
+    let third = asked (eqb (length choices) (allotment s)) _ 16 (second .1) in
+    let fourth = asked (every (λ choice. ltb choice (allotment s)) choices) _ 17 (third .1) in
+    record {
+      unfinished = not-true (finished (s .execution)) (first .0);
+      open-quantum = is-opened (s .quantum) (not-true (no-quantum-open (s .quantum)) (second .0));
+      one-each = eqb-true (length choices) (allotment s) (third .0);
+      below-allotment = fourth .0;
+    }
+
+-- ---- a tick, closing or not
+
+module _ (plan : Plan) (choices : List ℕ) (s : State) (P : State → Type 0)
+    (closing : closes plan (ticked plan choices s) ≡ true → P (closed plan (ticked plan choices s)))
+    (staying : closes plan (ticked plan choices s) ≡ false → P (ticked plan choices s)) where
+  pub tick-cases : P (tick plan choices s)
+  unfolding tick
+  tick-cases = go (closes plan (ticked plan choices s)) refl
+    where
+      go : (b : Bool) → closes plan (ticked plan choices s) ≡ b → P (cond b (closed plan (ticked plan choices s)) (ticked plan choices s))
+      go true h = closing h
+      go false h = staying h
+
+module _ (plan : Plan) (choices : List ℕ) (s : State) where
+  pub tick-execution : tick plan choices s .execution ≡ cycles (plan .graph) 0 choices (s .execution)
+  unfolding ticked closed
+  tick-execution =
+      tick-cases plan choices s (λ after. after .execution ≡ cycles (plan .graph) 0 choices (s .execution)) (λ h. refl) (λ h. refl)
+
+  pub tick-started : tick plan choices s .started ≡ s .started
+  unfolding ticked closed
+  tick-started = tick-cases plan choices s (λ after. after .started ≡ s .started) (λ h. refl) (λ h. refl)

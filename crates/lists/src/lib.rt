@@ -1,0 +1,1 @@
+// Laws of lists, for the proofs of all crates; no code.
