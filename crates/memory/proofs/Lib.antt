@@ -1,3 +1,5 @@
--- Words: what is stored is read back, and nothing stands beside it. Reading: what is read from a job's words is a job's.
+-- The proofs, by topic.
+pub mod Regions
+pub mod Walks
+pub mod Views
 pub mod Words
-pub mod Reading

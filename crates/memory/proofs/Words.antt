@@ -1,160 +1,65 @@
--- The words of numbers that fit their types: the numbers are read back from them, and they have nothing else.
--- Assumes nothing.
-use mathlib.Core.Path.{_≡_, refl, sym, ap, _∙_}
-use mathlib.Core.Bool.{Bool, true, false, not}
+-- A list of 18 words is its 18 words: what holds of every 18 numbers in a row holds of it. So a claim about stores at literal places is
+-- computed.
+use mathlib.Core.Path.{_≡_, refl, _∙_}
 use mathlib.Core.List.{List, [], _∷_}
-use Prim.Native.Nat.{ℕ, _+_, _%_, _^_, _<_}
+use Prim.Native.Nat.{ℕ, suc, _≤_, _<_}
 use native.Mathlib.Omega.{arith}
-use lib.Dec.{eqb}
-use mir.Val.{boolByte}
-use Rattle.deque.specs.declared.Numbers.{Numbers}
-use Rattle.engine.specs.declared.Course.{Course}
-use Rattle.memory.specs.Held.{word, flag, words-of, numbers-in, course-in, Packed, Unticked}
+use lib.ListN.{length, set, length-set}
+use lib.Seq.{getD-set-other}
+use Rattle.memory.specs.Words.{word, word-count, SameTail}
 
--- the numbers fit their types
-pub record NumbersFit (m : Numbers) : Type 0 where
-  pub tasks : m .tasks < 2 ^ 16
-  pub workers : m .workers < 2 ^ 8
-  pub done : m .done < 2 ^ 16
+-- a list of one more has a first
+first-of : (P : List ℕ → Type 0) (n : ℕ) → ((a : ℕ) (rest : List ℕ) → length rest ≡ n → P (a ∷ rest)) → (l : List ℕ) →
+    length l ≡ suc n → P l
+first-of P n h [] e = absurd (omega (arith, e))
+first-of P n h (a ∷ rest) e = h a rest (omega (arith, e))
 
-pub record CourseFits (c : Course) : Type 0 where
-  pub responsiveness : c .responsiveness < 2 ^ 8
-  pub utilization : c .utilization < 2 ^ 8
-  pub quantum-length : c .«quantum_length» < 2 ^ 16
-  pub desire : c .desire < 2 ^ 8
-  pub ticks : c .ticks < 2 ^ 16
-  pub begun : c .begun < 2 ^ 16
+none-of : (P : List ℕ → Type 0) → P [] → (l : List ℕ) → length l ≡ 0 → P l
+none-of P h [] e = h
+none-of P h (a ∷ rest) e = absurd (omega (arith, e))
 
-byte : (n : ℕ) → n < 2 ^ 8 → n % 2 ^ 8 ≡ n
-byte n l = omega (arith, l)
+pub by-words : (P : List ℕ → Type 0) →
+    ((w0 w1 w2 w3 w4 w5 w6 w7 w8 w9 w10 w11 w12 w13 w14 w15 w16 w17 : ℕ) →
+    P (w0 ∷ w1 ∷ w2 ∷ w3 ∷ w4 ∷ w5 ∷ w6 ∷ w7 ∷ w8 ∷ w9 ∷ w10 ∷ w11 ∷ w12 ∷ w13 ∷ w14 ∷ w15 ∷ w16 ∷ w17 ∷ [])) →
+    (words : List ℕ) → length words ≡ word-count → P words
+by-words P h =
+    first-of P 17
+    (λ w0. first-of (λ (l : List ℕ). P (w0 ∷ l)) 16
+    (λ w1. first-of (λ (l : List ℕ). P (w0 ∷ w1 ∷ l)) 15
+    (λ w2. first-of (λ (l : List ℕ). P (w0 ∷ w1 ∷ w2 ∷ l)) 14
+    (λ w3. first-of (λ (l : List ℕ). P (w0 ∷ w1 ∷ w2 ∷ w3 ∷ l)) 13
+    (λ w4. first-of (λ (l : List ℕ). P (w0 ∷ w1 ∷ w2 ∷ w3 ∷ w4 ∷ l)) 12
+    (λ w5. first-of (λ (l : List ℕ). P (w0 ∷ w1 ∷ w2 ∷ w3 ∷ w4 ∷ w5 ∷ l)) 11
+    (λ w6. first-of (λ (l : List ℕ). P (w0 ∷ w1 ∷ w2 ∷ w3 ∷ w4 ∷ w5 ∷ w6 ∷ l)) 10
+    (λ w7. first-of (λ (l : List ℕ). P (w0 ∷ w1 ∷ w2 ∷ w3 ∷ w4 ∷ w5 ∷ w6 ∷ w7 ∷ l)) 9
+    (λ w8. first-of (λ (l : List ℕ). P (w0 ∷ w1 ∷ w2 ∷ w3 ∷ w4 ∷ w5 ∷ w6 ∷ w7 ∷ w8 ∷ l)) 8
+    (λ w9. first-of (λ (l : List ℕ). P (w0 ∷ w1 ∷ w2 ∷ w3 ∷ w4 ∷ w5 ∷ w6 ∷ w7 ∷ w8 ∷ w9 ∷ l)) 7
+    (λ w10. first-of (λ (l : List ℕ). P (w0 ∷ w1 ∷ w2 ∷ w3 ∷ w4 ∷ w5 ∷ w6 ∷ w7 ∷ w8 ∷ w9 ∷ w10 ∷ l)) 6
+    (λ w11. first-of (λ (l : List ℕ). P (w0 ∷ w1 ∷ w2 ∷ w3 ∷ w4 ∷ w5 ∷ w6 ∷ w7 ∷ w8 ∷ w9 ∷ w10 ∷ w11 ∷ l)) 5
+    (λ w12. first-of (λ (l : List ℕ). P (w0 ∷ w1 ∷ w2 ∷ w3 ∷ w4 ∷ w5 ∷ w6 ∷ w7 ∷ w8 ∷ w9 ∷ w10 ∷ w11 ∷ w12 ∷ l)) 4
+    (λ w13. first-of (λ (l : List ℕ). P (w0 ∷ w1 ∷ w2 ∷ w3 ∷ w4 ∷ w5 ∷ w6 ∷ w7 ∷ w8 ∷ w9 ∷ w10 ∷ w11 ∷ w12 ∷ w13 ∷ l)) 3
+    (λ w14. first-of (λ (l : List ℕ). P (w0 ∷ w1 ∷ w2 ∷ w3 ∷ w4 ∷ w5 ∷ w6 ∷ w7 ∷ w8 ∷ w9 ∷ w10 ∷ w11 ∷ w12 ∷ w13 ∷ w14 ∷ l)) 2
+    (λ w15. first-of (λ (l : List ℕ). P (w0 ∷ w1 ∷ w2 ∷ w3 ∷ w4 ∷ w5 ∷ w6 ∷ w7 ∷ w8 ∷ w9 ∷ w10 ∷ w11 ∷ w12 ∷ w13 ∷ w14 ∷ w15 ∷ l)) 1
+    (λ w16. first-of (λ (l : List ℕ). P (w0 ∷ w1 ∷ w2 ∷ w3 ∷ w4 ∷ w5 ∷ w6 ∷ w7 ∷ w8 ∷ w9 ∷ w10 ∷ w11 ∷ w12 ∷ w13 ∷ w14 ∷ w15 ∷ w16 ∷ l)) 0
+    (λ w17.
+    none-of (λ (l : List ℕ). P (w0 ∷ w1 ∷ w2 ∷ w3 ∷ w4 ∷ w5 ∷ w6 ∷ w7 ∷ w8 ∷ w9 ∷ w10 ∷ w11 ∷ w12 ∷ w13 ∷ w14 ∷ w15 ∷ w16 ∷ w17 ∷ l))
+    (h w0 w1 w2 w3 w4 w5 w6 w7 w8 w9 w10 w11 w12 w13 w14 w15 w16 w17)))))))))))))))))))
 
-half : (n : ℕ) → n < 2 ^ 16 → n % 2 ^ 16 ≡ n
-half n l = omega (arith, l)
+-- ---- stores among the execution's numbers leave the rest
 
-set : (b : Bool) → not (eqb (flag b) 0) ≡ b
-set true = refl
-set false = refl
+pub same-tail : (words : List ℕ) → SameTail words words
+same-tail words = record { same-length = refl; same-from = λ i h. refl }
 
-pub numbers-back : (m : Numbers) (c : Course) → NumbersFit m → numbers-in (words-of m c) ≡ m
-unfolding words-of
-numbers-back m c fit = rw (half _ (fit .tasks), byte _ (fit .workers), half _ (fit .done))
+pub tail-then : {words words′ words″ : List ℕ} → SameTail words words′ → SameTail words′ words″ → SameTail words words″
+tail-then a b =
+    record {
+      same-length = b .same-length ∙ a .same-length;
+      same-from = λ i h. b .same-from i h ∙ a .same-from i h;
+    }
 
-pub course-back : (m : Numbers) (c : Course) → CourseFits c → course-in (words-of m c) ≡ c
-unfolding words-of
-course-back m c fit =
-    rw (
-      byte _ (fit .responsiveness),
-      byte _ (fit .utilization),
-      half _ (fit .quantum-length),
-      byte _ (fit .desire),
-      set (c .started),
-      set (c .«is_open»),
-      half _ (fit .ticks),
-      half _ (fit .begun),
-    )
-
--- ---- words that numbers were stored in
-
--- all of a job's numbers fit their types
-pub record Fit (m : Numbers) (c : Course) : Type 0 where
-  pub numbers : NumbersFit m
-  pub course : CourseFits c
-
-module _ (words : List ℕ) {m : Numbers} {c : Course} (stored : words ≡ words-of m c) where
-  pub numbers-read : Fit m c → numbers-in words ≡ m
-  numbers-read fit = ap numbers-in stored ∙ numbers-back m c (fit .numbers)
-
-  pub course-read : Fit m c → course-in words ≡ c
-  course-read fit = ap course-in stored ∙ course-back m c (fit .course)
-
-  pub packed : Fit m c → Packed words
-  packed fit = rw (numbers-read fit, course-read fit) stored
-
--- ---- what is written
-
--- the byte of a flag is its word
-as-flag : (b : Bool) → boolByte b ≡ flag b
-as-flag true = refl
-as-flag false = refl
-
--- the words as they are written one after the other, with the numbers of the three counts
-abbrev pub written-words : ℕ → ℕ → ℕ → Numbers → Course → List ℕ
-written-words work mug steal m c =
-    m .tasks
-    ∷ m .workers
-    ∷ m .done
-    ∷ work
-    ∷ mug
-    ∷ steal
-    ∷ m .successes
-    ∷ m .usage
-    ∷ m .head
-    ∷ m .waiting
-    ∷ c .responsiveness
-    ∷ c .utilization
-    ∷ c .«quantum_length»
-    ∷ c .desire
-    ∷ boolByte (c .started)
-    ∷ boolByte (c .«is_open»)
-    ∷ c .ticks
-    ∷ c .begun
-    ∷ []
-
-pub written-right : (m : Numbers) (c : Course) {work mug steal : ℕ} → work ≡ m .works .0 → mug ≡ m .mugs .0 → steal ≡ m .steals .0 →
-    written-words work mug steal m c ≡ words-of m c
-unfolding words-of
-written-right m c works mugs steals = rw (works, mugs, steals, as-flag (c .started), as-flag (c .«is_open»))
-
--- the words with what a tick can change, and the others as they were
-abbrev pub ticked-words : List ℕ → ℕ → ℕ → ℕ → Numbers → Course → List ℕ
-ticked-words words work mug steal m c =
-    word words 0
-    ∷ word words 1
-    ∷ m .done
-    ∷ work
-    ∷ mug
-    ∷ steal
-    ∷ m .successes
-    ∷ m .usage
-    ∷ m .head
-    ∷ m .waiting
-    ∷ word words 10
-    ∷ word words 11
-    ∷ word words 12
-    ∷ c .desire
-    ∷ word words 14
-    ∷ boolByte (c .«is_open»)
-    ∷ c .ticks
-    ∷ word words 17
-    ∷ []
-
--- the words that stood were those of what no tick changes
-module _ (words : List ℕ) (m : Numbers) (c : Course) (kept : Unticked words m c) where
-  stood : (place : ℕ) → word words place ≡ word (words-of (numbers-in words) (course-in words)) place
-  stood place = ap (λ (ws : List ℕ). word ws place) (kept .packed)
-
-  pub ticked-right : {work mug steal : ℕ} → work ≡ m .works .0 → mug ≡ m .mugs .0 → steal ≡ m .steals .0 →
-      ticked-words words work mug steal m c ≡ words-of m c
-  unfolding words-of
-  ticked-right works mugs steals =
-      let same = kept .same-course in
-      let its-tasks : word words 0 ≡ m .tasks = stood 0 ∙ sym (kept .same-tasks) in
-      let its-workers : word words 1 ≡ m .workers = stood 1 ∙ sym (kept .same-workers) in
-      let its-responsiveness : word words 10 ≡ c .responsiveness = stood 10 ∙ sym (same .same-responsiveness) in
-      let its-utilization : word words 11 ≡ c .utilization = stood 11 ∙ sym (same .same-utilization) in
-      let its-length : word words 12 ≡ c .«quantum_length» = stood 12 ∙ sym (same .same-length) in
-      let its-start : word words 14 ≡ flag (c .started) = stood 14 ∙ ap flag (sym (same .same-started)) in
-      let its-begun : word words 17 ≡ c .begun = stood 17 ∙ sym (same .same-begun) in
-      rw (
-        works,
-        mugs,
-        steals,
-        its-tasks,
-        its-workers,
-        its-responsiveness,
-        its-utilization,
-        its-length,
-        its-start,
-        as-flag (c .«is_open»),
-        its-begun,
-      )
+pub tail-store : (words : List ℕ) (place v : ℕ) → place < 10 → SameTail words (set words place v)
+tail-store words place v few =
+    record {
+      same-length = length-set words place v;
+      same-from = λ i h. getD-set-other words place i v 0 (λ e. omega (arith, few, h, e));
+    }

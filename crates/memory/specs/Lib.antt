@@ -1,2 +1,9 @@
--- Held: the job that lent memory holds.
-pub mod Held
+-- What a job's memory and words show, and when they are sound.
+-- Parts: where each part of the memory lies. Words: what each word is. Graphs: the plan's graph. View: the deques, the worked tasks and the
+-- execution. Sound: when these are sound. Jobs: the plan and the state of a job.
+pub mod Parts
+pub mod Words
+pub mod Graphs
+pub mod View
+pub mod Sound
+pub mod Jobs

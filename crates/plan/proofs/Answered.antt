@@ -1,34 +1,37 @@
 -- The heading that each way out gives, and the answer that it has: the header's, the tasks', 9, 10 or acceptance.
 use mathlib.Core.Path.{_≡_, refl, sym, _∙_, ap}
-use mathlib.Core.Bool.{true, false}
+use mathlib.Core.Bool.{Bool, true, false}
 use mathlib.Core.List.{List, [], _∷_, flatMap}
 use Prim.Native.Nat.{ℕ, _+_, _*_, _-_, _≤_, _<_}
 use native.Mathlib.Omega.{arith}
 use borrow.Author.Tests.{le-leb, lt-leb}
-use lib.ListN.{length, getD, set, drop, replicate}
+use lib.ListN.{length, getD, set, drop}
 use Rattle.model.specs.Tests.{below, every}
-use Rattle.model.specs.Questions.{accepted, ask, first-no}
-use Rattle.model.specs.Plan.{header, task-count, task-questions, header-questions, graph-questions, all-preceded, one-exit, plan-of, plan-answer}
+use Rattle.model.specs.Questions.{Answer, accepted, ask, first-no}
+use Rattle.model.specs.Plan.{header, task-count, task-questions, header-questions, graph-questions, all-preceded, one-exit, plan-of}
+use Rattle.model.specs.Plan.{plan-answer}
+use Rattle.memory.specs.Parts.{Parts, parts}
+use Rattle.memory.proofs.Regions.{store-pending}
 use Rattle.plan.specs.declared.PlanAnswer.{PlanAnswer}
 use Rattle.plan.specs.declared.PlanAnswer.the-variants.{Accepted, Short, BadPredecessors, LooseEnd}
 use Rattle.plan.specs.declared.Header.{Header}
-use Rattle.plan.specs.declared.Reading.{Reading}
 use Rattle.plan.specs.declared.Heading.{Heading}
 use Rattle.plan.specs.Answers.{answer-of, passes}
-use Rattle.plan.specs.Contracts.{five-bytes, field-questions, HeaderOf, HeaderRead, Held, Due, TasksRead, one-or-two, followed, HeadingRead}
-use Rattle.plan.specs.Promise.{blank, no-heading, plan-with, Holds, RightReading, RightHeading}
+use Rattle.plan.specs.Contracts.{five-bytes, field-questions, HeaderOf, HeaderRead, Held, Due, TasksRead, one-or-two, followed}
+use Rattle.plan.specs.Contracts.{HeadingRead, no-memory}
+use Rattle.plan.specs.Promise.{no-heading, Holds, RightHeading}
 use Rattle.plan.proofs.Asked.{passes-is, passes-not, stops, two-accepted, first-refused, second-refused}
 use Rattle.plan.proofs.Facts.{header-facts}
 use Rattle.plan.proofs.Sound.{answer-parts, graph-facts}
 use Rattle.plan.proofs.Steps.{header-bytes}
-use Rattle.plan.proofs.Whole.{question-9, question-10, nothing-held, record-holds}
+use Rattle.plan.proofs.Whole.{question-9, question-10, nothing-held, memory-holds}
 
 -- ---- headings
 
 -- a refusal leaves zeros
-pub right-refusal : (bytes : List ℕ) (a : PlanAnswer) (r : Heading) (first second counts : List ℕ) → answer-of a ≡ plan-answer bytes →
-    passes (answer-of a) ≡ false → r ≡ no-heading a → HeadingRead bytes r first second counts
-right-refusal bytes a r first second counts answered fails e =
+pub right-refusal : (bytes : List ℕ) (a : PlanAnswer) (r : Heading) (memory : List ℕ) → answer-of a ≡ plan-answer bytes →
+    passes (answer-of a) ≡ false → r ≡ no-heading a → HeadingRead bytes r memory
+right-refusal bytes a r memory answered fails e =
     rw e
     (record {
       answered = answered;
@@ -36,31 +39,30 @@ right-refusal bytes a r first second counts answered fails e =
       no-plan = λ _ _. refl;
     })
 
-pub right-acceptance : (bytes : List ℕ) (r : Heading) (first second counts : List ℕ) → plan-answer bytes ≡ accepted → r .answer ≡ Accepted →
-    Holds bytes (plan-with r first second counts) → HeadingRead bytes r first second counts
-right-acceptance bytes r first second counts answered e h =
+pub right-acceptance : (bytes : List ℕ) (r : Heading) (memory : List ℕ) → plan-answer bytes ≡ accepted → r .answer ≡ Accepted →
+    Holds bytes r memory → HeadingRead bytes r memory
+right-acceptance bytes r memory answered e h =
     record {
       answered = ap answer-of e ∙ sym answered;
       held = λ _. h;
       no-plan = λ number refusal. let z : _≡_ {A = ℕ} 0 1 = cc in absurd (omega arith);
     }
 
--- ---- readings into lent arrays
+-- ---- what is handed out of a reading into memory of its own
 
-module _ (bytes : List ℕ) (h : Heading) (its-first its-second its-counts : List ℕ)
-    (read : HeadingRead bytes h its-first its-second its-counts) (first second counts : List ℕ) where
-  -- refused: the lent arrays are as they came
-  pub into-refused : passes (answer-of (h .answer)) ≡ false → RightHeading bytes h first second counts first second counts
+module _ (bytes : List ℕ) (h : Heading) (graph : List ℕ) (read : HeadingRead bytes h graph) (memory : List ℕ) where
+  -- refused: the lent memory is as it came
+  pub into-refused : passes (answer-of (h .answer)) ≡ false → RightHeading bytes h memory memory
   into-refused fails =
       record {
         answered = read .answered;
         held = λ yes'. absurd (passes-not (answer-of (h .answer)) fails (read .answered ∙ yes'));
         no-plan = read .no-plan;
-        kept = λ _ _. (refl, refl, refl);
+        kept = λ _ _. refl;
       }
 
-  -- accepted: they have what was read
-  pub into-passed : passes (answer-of (h .answer)) ≡ true → RightHeading bytes h first second counts its-first its-second its-counts
+  -- accepted: it has what was read
+  pub into-passed : passes (answer-of (h .answer)) ≡ true → RightHeading bytes h memory graph
   into-passed holds =
       record {
         answered = read .answered;
@@ -71,27 +73,11 @@ module _ (bytes : List ℕ) (h : Heading) (its-first its-second its-counts : Lis
             let z : _≡_ {A = ℕ} 0 1 = cc in absurd (omega arith);
       }
 
--- ---- readings, by value
-
-module _ (bytes : List ℕ) (h : Heading) (first second counts : List ℕ) (right : HeadingRead bytes h first second counts) where
-  pub reading-refused : (r : Reading) → passes (answer-of (h .answer)) ≡ false → r .answer ≡ h .answer → r .plan ≡ blank → RightReading bytes r
-  reading-refused r fails e p =
-      record {
-        answered = ap answer-of e ∙ right .answered;
-        held = λ yes'. absurd (passes-not (answer-of (h .answer)) fails (right .answered ∙ yes'));
-        no-plan = λ _ _. p;
-      }
-
-  pub reading-passed : passes (answer-of (h .answer)) ≡ true →
-      RightReading bytes (record { answer = h .answer; plan = plan-with h first second counts })
-  reading-passed holds =
-      record {
-        answered = right .answered;
-        held = right .held;
-        no-plan = λ number refusal.
-            let is-accepted : plan-answer bytes ≡ accepted = sym (right .answered) ∙ passes-is (answer-of (h .answer)) holds in
-            let z : _≡_ {A = ℕ} 0 1 = cc in absurd (omega arith);
-      }
+-- refused before anything is read
+pub refused-outright : (bytes : List ℕ) (a : PlanAnswer) (r : Heading) (memory : List ℕ) → answer-of a ≡ plan-answer bytes →
+    passes (answer-of a) ≡ false → r ≡ no-heading a → RightHeading bytes r memory memory
+refused-outright bytes a r memory answered fails e =
+    into-refused bytes r memory (right-refusal bytes a r memory answered fails e) memory (rw e fails)
 
 -- ---- the header
 
@@ -104,7 +90,10 @@ module _ (bytes : List ℕ) (h : Header) (long-enough : 5 ≤ length bytes)
   header-of-bytes : HeaderOf (header bytes) h
   header-of-bytes = rw (header-bytes bytes) fields
 
-  header-asked : first-no (field-questions (h .form) (h .responsiveness) (h .utilization) (h .quantum) (h .tasks) (length bytes)) ≡ first-no (header-questions bytes)
+  abbrev asked-fields : Answer
+  asked-fields = first-no (field-questions (h .form) (h .responsiveness) (h .utilization) (h .quantum) (h .tasks) (length bytes))
+
+  header-asked : asked-fields ≡ first-no (header-questions bytes)
   unfolding field-questions header-questions first-no
   header-asked =
       rw (
@@ -116,8 +105,7 @@ module _ (bytes : List ℕ) (h : Header) (long-enough : 5 ≤ length bytes)
         le-leb 5 (length bytes) long-enough,
       )
 
-  module _ (a : PlanAnswer)
-      (asked : answer-of a ≡ first-no (field-questions (h .form) (h .responsiveness) (h .utilization) (h .quantum) (h .tasks) (length bytes))) where
+  module _ (a : PlanAnswer) (asked : answer-of a ≡ asked-fields) where
     pub header-refused : passes (answer-of a) ≡ false → answer-of a ≡ plan-answer bytes
     header-refused fails = stops (answer-of a) _ _ (asked ∙ header-asked) fails ∙ sym (answer-parts bytes)
 
@@ -130,55 +118,62 @@ module _ (bytes : List ℕ) (h : Header) (read : HeaderRead bytes h) where
   pub tasks-number : h .tasks ≡ task-count bytes
   tasks-number = read .fields .tasks-read
 
-  pub first-due : (first second counts : List ℕ) → first ≡ replicate 1024 0 → second ≡ replicate 1024 0 → counts ≡ replicate 1024 0 →
-      Due bytes (h .tasks) 0 first second counts
-  first-due first second counts f s c =
+  pub first-due : (memory : List ℕ) → memory ≡ no-memory → Due bytes (h .tasks) 0 (parts memory)
+  first-due memory zeros =
       record {
         whole = header-facts bytes (read .passed) .exact-length ∙ ap (λ n. 5 + 3 * n) (sym tasks-number);
         number = tasks-number;
-        held = nothing-held bytes first second counts f s c;
+        held = rw zeros (nothing-held bytes);
       }
 
-  module _ (a : PlanAnswer) (first second counts : List ℕ) (tasks : TasksRead bytes (h .tasks) a first second counts) where
+  module _ (a : PlanAnswer) (memory : List ℕ) (tasks : TasksRead bytes (h .tasks) a (parts memory)) where
+    abbrev p : Parts
+    p = parts memory
+
+    abbrev nine-asked : Bool
+    nine-asked = every (one-or-two (p .pending)) (drop 1 (below (h .tasks)))
+
+    abbrev ten-asked : Bool
+    ten-asked = every (followed (p .first)) (below (h .tasks - 1))
+
     asked-of-tasks : answer-of a ≡ first-no (flatMap (task-questions bytes) (below (task-count bytes)))
     asked-of-tasks = tasks .answered ∙ ap (λ n. first-no (flatMap (task-questions bytes) (below n))) tasks-number
 
     pub tasks-refused : passes (answer-of a) ≡ false → answer-of a ≡ plan-answer bytes
     tasks-refused fails =
-        stops (answer-of a) (first-no (flatMap (task-questions bytes) (below (task-count bytes)))) (first-no (graph-questions (plan-of bytes)))
-        asked-of-tasks fails
+        stops (answer-of a) _ (first-no (graph-questions (plan-of bytes .graph))) asked-of-tasks fails
         ∙ sym (answer-parts bytes ∙ rw (read .passed))
 
     module _ (holds : passes (answer-of a) ≡ true) where
-      all-held : Held bytes (task-count bytes) first second counts
+      all-held : Held bytes (task-count bytes) p
       all-held = rw (← tasks-number) (tasks .held (passes-is (answer-of a) holds))
 
       -- what is left of the answer
-      graph-left : plan-answer bytes ≡ first-no (ask (all-preceded (plan-of bytes)) 9 ∷ ask (one-exit (plan-of bytes)) 10 ∷ [])
+      graph-left : plan-answer bytes ≡
+          first-no (ask (all-preceded (plan-of bytes .graph)) 9 ∷ ask (one-exit (plan-of bytes .graph)) 10 ∷ [])
       unfolding graph-questions
       graph-left = answer-parts bytes ∙ rw (read .passed, sym asked-of-tasks ∙ passes-is (answer-of a) holds)
 
-      pub refused-9 : every (one-or-two counts) (drop 1 (below (h .tasks))) ≡ false → answer-of BadPredecessors ≡ plan-answer bytes
+      pub refused-9 : nine-asked ≡ false → answer-of BadPredecessors ≡ plan-answer bytes
       refused-9 fails =
-          sym (graph-left ∙ first-refused _ 9 10 (sym (question-9 bytes first second counts all-held) ∙ rw tasks-number at fails))
+          sym (graph-left ∙ first-refused _ 9 10 (sym (question-9 bytes p all-held) ∙ rw tasks-number at fails))
 
-      pub refused-10 : every (one-or-two counts) (drop 1 (below (h .tasks))) ≡ true → every (followed first) (below (h .tasks - 1)) ≡ false →
-          answer-of LooseEnd ≡ plan-answer bytes
+      pub refused-10 : nine-asked ≡ true → ten-asked ≡ false → answer-of LooseEnd ≡ plan-answer bytes
       refused-10 nine fails =
           sym
           (graph-left
-          ∙ second-refused 9 10 (sym (question-9 bytes first second counts all-held) ∙ rw tasks-number at nine)
-          (sym (question-10 bytes first second counts all-held) ∙ rw tasks-number at fails))
+          ∙ second-refused 9 10 (sym (question-9 bytes p all-held) ∙ rw tasks-number at nine)
+          (sym (question-10 bytes p all-held) ∙ rw tasks-number at fails))
 
-      pub accepted-whole : every (one-or-two counts) (drop 1 (below (h .tasks))) ≡ true → every (followed first) (below (h .tasks - 1)) ≡ true →
-          (r : Heading) → r .answer ≡ Accepted → r .responsiveness ≡ h .responsiveness → r .utilization ≡ h .utilization →
-          r .«quantum_length» ≡ h .quantum → r .tasks ≡ h .tasks → HeadingRead bytes r first second (set counts 0 0)
+      pub accepted-whole : nine-asked ≡ true → ten-asked ≡ true → (r : Heading) → r .answer ≡ Accepted →
+          r .responsiveness ≡ h .responsiveness → r .utilization ≡ h .utilization →
+          r .«quantum_length» ≡ h .quantum → r .tasks ≡ h .tasks → HeadingRead bytes r (set memory 3072 0)
       unfolding graph-questions
       accepted-whole nine ten r e e-r e-u e-q e-n =
           let passed =
-          two-accepted 9 10 (sym (question-9 bytes first second counts all-held) ∙ rw tasks-number at nine)
-          (sym (question-10 bytes first second counts all-held) ∙ rw tasks-number at ten) in
-          right-acceptance bytes r first second (set counts 0 0) (graph-left ∙ passed) e
-          (record-holds bytes first second counts all-held (plan-with r first second (set counts 0 0)) (e-r ∙ read .fields .responsiveness-read)
-          (e-u ∙ read .fields .utilization-read) (e-q ∙ read .fields .quantum-read) (e-n ∙ tasks-number) refl refl refl
-          (graph-facts (plan-of bytes) passed))
+          two-accepted 9 10 (sym (question-9 bytes p all-held) ∙ rw tasks-number at nine)
+          (sym (question-10 bytes p all-held) ∙ rw tasks-number at ten) in
+          right-acceptance bytes r (set memory 3072 0) (graph-left ∙ passed) e
+          (memory-holds bytes p all-held r (set memory 3072 0) (store-pending memory 0 0 (omega arith))
+          (graph-facts (plan-of bytes .graph) passed) (e-r ∙ read .fields .responsiveness-read) (e-u ∙ read .fields .utilization-read)
+          (e-q ∙ read .fields .quantum-read) (e-n ∙ tasks-number))

@@ -1,14 +1,16 @@
 -- Laws of `first-no`: the first "no" of a list of questions.
 use mathlib.Core.Path.{_≡_, refl, sym, _∙_, ap}
 use mathlib.Core.Bool.{Bool, true, false, cond}
-use mathlib.Core.Logic.{_⊎_, ⊎-elim}
+use mathlib.Core.Logic.{⊎-elim}
 use mathlib.Core.List.{List, [], _∷_, _++_, flatMap}
 use Prim.Native.Nat.{ℕ, zero, suc, _≤_, _<_}
+use native.Mathlib.Nat.{eq-or-lt-of-le, le-of-suc-le-suc}
 use native.Mathlib.Omega.{arith}
 use Rattle.model.specs.Tests.{below}
 use Rattle.model.specs.Questions.{Question, Answer, accepted, refused, ask, first-no}
+use Rattle.lists.proofs.Tests.{true-is-not-false}
 use Rattle.plan.specs.Answers.{passes}
-use Rattle.plan.proofs.Lists.{flatMap-below, last-or-below}
+use Rattle.lists.proofs.Ranges.{flatMap-below}
 
 -- an answer, and where it is acceptance another
 abbrev pub and-then : Answer → Answer → Answer
@@ -20,7 +22,8 @@ unfolding first-no
 first-no-append [] ys = refl
 first-no-append (q ∷ qs) ys = by (first-no-append qs ys) (q .holds)
   where
-    by : first-no (qs ++ ys) ≡ and-then (first-no qs) (first-no ys) → (b : Bool) → cond b (first-no (qs ++ ys)) (refused (q .number)) ≡ and-then (cond b (first-no qs) (refused (q .number))) (first-no ys)
+    by : first-no (qs ++ ys) ≡ and-then (first-no qs) (first-no ys) → (b : Bool) →
+        cond b (first-no (qs ++ ys)) (refused (q .number)) ≡ and-then (cond b (first-no qs) (refused (q .number))) (first-no ys)
     by rest true = rest
     by rest false = refl
 
@@ -38,7 +41,7 @@ passes-is accepted h = refl
 passes-is (refused n) h = let z : _≡_ {A = ℕ} 0 1 = cc in absurd (omega arith)
 
 pub passes-not : (a : Answer) → passes a ≡ false → a ≡ accepted → ⊥
-passes-not a h e = let z : _≡_ {A = Bool} true false = sym (ap passes e) ∙ h in let w : _≡_ {A = ℕ} 0 1 = cc in omega arith
+passes-not a h e = true-is-not-false (ap passes e) h
 
 -- after a refusal nothing more is asked
 pub stops : (a b c : Answer) → a ≡ b → passes a ≡ false → a ≡ and-then b c
@@ -74,7 +77,7 @@ module _ (f : ℕ → List Question) where
   refused-early i zero k l h =
       let e : i ≡ 0 = omega arith in
       ap (λ m. first-no (flatMap f (below m))) (sym e) ∙ h
-  refused-early i (suc n) k l h = ⊎-elim at-once (λ b. before (refused-early i n k (omega arith) h)) (last-or-below i (suc n) (omega arith))
+  refused-early i (suc n) k l h = ⊎-elim at-once (λ b. before (refused-early i n k (omega arith) h)) (eq-or-lt-of-le l)
     where
       at-once : i ≡ suc n → first-no (flatMap f (below (suc n))) ≡ refused k
       at-once e = ap (λ m. first-no (flatMap f (below m))) (sym e) ∙ h
@@ -83,7 +86,8 @@ module _ (f : ℕ → List Question) where
       before r = first-no-below n ∙ ap (λ a. and-then a (first-no (f n))) r
 
   -- where all below i are accepted and i's are not, the answer is i's
-  pub refused-at : (i n k : ℕ) → i < n → first-no (flatMap f (below i)) ≡ accepted → first-no (f i) ≡ refused k → first-no (flatMap f (below n)) ≡ refused k
+  pub refused-at : (i n k : ℕ) → i < n → first-no (flatMap f (below i)) ≡ accepted → first-no (f i) ≡ refused k →
+      first-no (flatMap f (below n)) ≡ refused k
   refused-at i n k l a r =
       refused-early (suc i) n k l (first-no-below i ∙ (ap (λ x. and-then x (first-no (f i))) a ∙ r))
 
@@ -99,7 +103,7 @@ module _ (f : ℕ → List Question) where
       ⊎-elim
       (λ e. ap (λ m. first-no (f m)) e ∙ second-accepted (first-no (flatMap f (below n))) (first-no (f n)) whole)
       (λ b. accepted-at n (first-accepted (first-no (flatMap f (below n))) (first-no (f n)) whole) t b)
-      (last-or-below t n l)
+      (eq-or-lt-of-le (le-of-suc-le-suc l))
     where
       whole : and-then (first-no (flatMap f (below n))) (first-no (f n)) ≡ accepted
       whole = sym (first-no-below n) ∙ h

@@ -1,30 +1,31 @@
 -- What the questions say as facts: of the header, of one task's fields and of its successors.
 use mathlib.Core.Path.{_≡_, refl, sym, _∙_, ap}
-use mathlib.Core.Bool.{true, false, not, _&&_}
+use mathlib.Core.Bool.{true, _&&_}
 use mathlib.Core.List.{List, [], _∷_, List·Memᴰ}
 use Prim.Native.Nat.{ℕ, zero, suc, _+_, _*_, _≤_, _<_}
 use native.Mathlib.Omega.{arith}
 use borrow.Author.Tests.{ltb-true, leb-true, eqb-true, lt-ltb, le-leb, eq-eqb, ne-eqb, not-true}
 use lib.Dec.{leb, ltb, eqb}
-use lib.ListN.{length, length-map}
-use Rattle.model.specs.Tests.{below, every}
+use lib.ListN.{length}
+use Rattle.model.specs.Tests.{every}
 use Rattle.model.specs.Questions.{accepted, first-no}
-use Rattle.model.specs.Plan.{tasks, successors-of, form-field, responsiveness-field, utilization-field, quantum-length-field, task-count, count-field, first-field, second-field, used-fields, successor-fields, plan-of, fields-ok, two-differ, targets-ok, task-questions, header-questions}
-use Rattle.plan.proofs.Lists.{length-below, getD-map-below, every-at, every-holds, first-holds, second-holds, both-hold}
+use Rattle.model.specs.Plan.{tasks, successors-of, form-field, responsiveness-field, utilization-field, quantum-length-field, task-count}
+use Rattle.model.specs.Plan.{count-field, first-field, second-field, used-fields, successor-fields, plan-of, fields-ok, two-differ}
+use Rattle.model.specs.Plan.{targets-ok, task-questions, header-questions}
+use Rattle.lists.proofs.Tests.{true-is-not-false, and-left, and-right, both}
+use Rattle.lists.proofs.Lists.{every-at, every-from}
+use Rattle.lists.proofs.Tables.{table-length, table-at}
 use Rattle.plan.proofs.Asked.{ask-accepted, two-accepted}
-
-false-is-not-true : {A : Type 0} → false ≡ true → A
-false-is-not-true h = let z : _≡_ {A = ℕ} 0 1 = cc in absurd (omega arith)
 
 -- ---- the plan that bytes give
 
-pub tasks-of : (bytes : List ℕ) → tasks (plan-of bytes) ≡ task-count bytes
+pub tasks-of : (bytes : List ℕ) → tasks (plan-of bytes .graph) ≡ task-count bytes
 unfolding plan-of
-tasks-of bytes = length-map (below (task-count bytes)) (successor-fields bytes) ∙ length-below (task-count bytes)
+tasks-of bytes = table-length (successor-fields bytes) (task-count bytes)
 
-pub successors-given : (bytes : List ℕ) (t : ℕ) → t < task-count bytes → successors-of (plan-of bytes) t ≡ successor-fields bytes t
+pub successors-given : (bytes : List ℕ) (t : ℕ) → t < task-count bytes → successors-of (plan-of bytes .graph) t ≡ successor-fields bytes t
 unfolding plan-of
-successors-given bytes t h = getD-map-below (successor-fields bytes) [] (task-count bytes) t h
+successors-given bytes t h = table-at (successor-fields bytes) (task-count bytes) t [] h
 
 -- ---- the header
 
@@ -50,8 +51,8 @@ header-facts bytes h =
       long-enough = leb-true _ _ (a .0);
       known-form = eqb-true _ _ (b .0);
       responsive = leb-true _ _ (c .0);
-      utilized = leb-true _ _ (first-holds (leb 1 (utilization-field bytes)) (leb (utilization-field bytes) 100) (d .0));
-      percent = leb-true _ _ (second-holds (leb 1 (utilization-field bytes)) (leb (utilization-field bytes) 100) (d .0));
+      utilized = leb-true _ _ (and-left (leb 1 (utilization-field bytes)) (leb (utilization-field bytes) 100) (d .0));
+      percent = leb-true _ _ (and-right (leb 1 (utilization-field bytes)) (leb (utilization-field bytes) 100) (d .0));
       timed = leb-true _ _ (e .0);
       exact-length = eqb-true _ _ (f .0);
     }
@@ -79,14 +80,20 @@ pub record FieldFacts (count first second : ℕ) : Type 0 where
 pub fields-facts : (count first second : ℕ) → fields-ok count first second ≡ true → FieldFacts count first second
 unfolding fields-ok
 fields-facts zero f s h =
-    record { two-fields = omega arith; first-unused = λ e. eqb-true f 0 (first-holds (eqb f 0) (eqb s 0) h); second-unused = λ l. eqb-true s 0 (second-holds (eqb f 0) (eqb s 0) h) }
-fields-facts (suc zero) f s h = record { two-fields = omega arith; first-unused = λ e. absurd (omega arith); second-unused = λ l. eqb-true _ _ h }
-fields-facts (suc (suc zero)) f s h = record { two-fields = omega arith; first-unused = λ e. absurd (omega arith); second-unused = λ l. absurd (omega arith) }
-fields-facts (suc (suc (suc more))) f s h = false-is-not-true h
+    record {
+      two-fields = omega arith;
+      first-unused = λ e. eqb-true f 0 (and-left (eqb f 0) (eqb s 0) h);
+      second-unused = λ l. eqb-true s 0 (and-right (eqb f 0) (eqb s 0) h);
+    }
+fields-facts (suc zero) f s h =
+    record { two-fields = omega arith; first-unused = λ e. absurd (omega arith); second-unused = λ l. eqb-true _ _ h }
+fields-facts (suc (suc zero)) f s h =
+    record { two-fields = omega arith; first-unused = λ e. absurd (omega arith); second-unused = λ l. absurd (omega arith) }
+fields-facts (suc (suc (suc more))) f s h = absurd (true-is-not-false h refl)
 
 pub fields-accepted : (count first second : ℕ) → FieldFacts count first second → fields-ok count first second ≡ true
 unfolding fields-ok
-fields-accepted zero f s h = both-hold (eq-eqb f 0 (h .first-unused refl)) (eq-eqb s 0 (h .second-unused (omega arith)))
+fields-accepted zero f s h = both _ _ (eq-eqb f 0 (h .first-unused refl)) (eq-eqb s 0 (h .second-unused (omega arith)))
 fields-accepted (suc zero) f s h = eq-eqb s 0 (h .second-unused (omega arith))
 fields-accepted (suc (suc zero)) f s h = refl
 fields-accepted (suc (suc (suc more))) f s h = absurd (omega (arith, h .two-fields))
@@ -104,11 +111,10 @@ same-targets p q h = rw (← p, ← q) h
 differ : (a b : ℕ) (successors : List ℕ) → two-differ successors ≡ true → successors ≡ a ∷ b ∷ [] → a ≡ b → ⊥
 unfolding two-differ
 differ a b successors h e same =
-    let yes : eqb a b ≡ true = eq-eqb a b same in
-    let no : not (eqb a b) ≡ true = sym (ap two-differ e) ∙ h in
-    let z : _≡_ {A = ℕ} 0 1 = cc (not-true (eqb a b) no) in omega arith
+    true-is-not-false (eq-eqb a b same) (not-true (eqb a b) (sym (ap two-differ e) ∙ h))
 
-differ-test : (successors : List ℕ) → length successors ≤ 2 → ((a b : ℕ) → successors ≡ a ∷ b ∷ [] → a ≡ b → ⊥) → two-differ successors ≡ true
+differ-test : (successors : List ℕ) → length successors ≤ 2 → ((a b : ℕ) → successors ≡ a ∷ b ∷ [] → a ≡ b → ⊥) →
+    two-differ successors ≡ true
 unfolding two-differ
 differ-test [] l h = refl
 differ-test (x ∷ []) l h = refl
@@ -119,18 +125,19 @@ pub target-facts : (n t : ℕ) (successors : List ℕ) → targets-ok n t succes
 unfolding targets-ok
 target-facts n t successors h =
     let rising = every (λ s. ltb t s && ltb s n) successors in
-    let each = every-at (λ s. ltb t s && ltb s n) successors (first-holds rising (two-differ successors) h) in
+    let each = every-at (λ s. ltb t s && ltb s n) successors (and-left rising (two-differ successors) h) in
     record {
-      upward = λ s m. ltb-true t s (first-holds (ltb t s) (ltb s n) (each s m));
-      inside = λ s m. ltb-true s n (second-holds (ltb t s) (ltb s n) (each s m));
-      apart = λ a b. differ a b successors (second-holds rising (two-differ successors) h);
+      upward = λ s m. ltb-true t s (and-left (ltb t s) (ltb s n) (each s m));
+      inside = λ s m. ltb-true s n (and-right (ltb t s) (ltb s n) (each s m));
+      apart = λ a b. differ a b successors (and-right rising (two-differ successors) h);
     }
 
-pub targets-accepted : (n t : ℕ) (successors : List ℕ) → length successors ≤ 2 → TargetFacts n t successors → targets-ok n t successors ≡ true
+pub targets-accepted : (n t : ℕ) (successors : List ℕ) → length successors ≤ 2 → TargetFacts n t successors →
+    targets-ok n t successors ≡ true
 unfolding targets-ok
 targets-accepted n t successors l h =
-    both-hold
-    (every-holds (λ s. ltb t s && ltb s n) successors (λ s m. both-hold (lt-ltb t s (h .upward s m)) (lt-ltb s n (h .inside s m))))
+    both _ _
+    (every-from (λ s. ltb t s && ltb s n) successors (λ s m. both _ _ (lt-ltb t s (h .upward s m)) (lt-ltb s n (h .inside s m))))
     (differ-test successors l (h .apart))
 
 pub used-most : (count first second : ℕ) → length (used-fields count first second) ≤ 2

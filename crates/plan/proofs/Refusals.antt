@@ -12,7 +12,7 @@ use Rattle.model.specs.Questions.{accepted, refused, ask, first-no}
 use Rattle.model.specs.Plan.{used-fields, fields-ok, two-differ, targets-ok}
 use Rattle.plan.specs.Answers.{passes}
 use Rattle.plan.specs.Contracts.{field-questions, pair-questions}
-use Rattle.plan.proofs.Lists.{second-holds}
+use Rattle.lists.proofs.Tests.{true-is-not-false, and-right}
 use Rattle.plan.proofs.Asked.{passes-is}
 
 -- ---- questions 2 to 6
@@ -53,7 +53,8 @@ module _ (n t count first second : ℕ) where
   unfolding pair-questions first-no fields-ok
   no-7-count h = by count h
     where
-      by : (k : ℕ) → 2 < k → refused 7 ≡ first-no (ask (fields-ok k first second) 7 ∷ ask (targets-ok n t (used-fields k first second)) 8 ∷ [])
+      by : (k : ℕ) → 2 < k →
+          refused 7 ≡ first-no (ask (fields-ok k first second) 7 ∷ ask (targets-ok n t (used-fields k first second)) 8 ∷ [])
       by zero h = absurd (omega arith)
       by (suc zero) h = absurd (omega arith)
       by (suc (suc zero)) h = absurd (omega arith)
@@ -63,7 +64,8 @@ module _ (n t count first second : ℕ) where
   unfolding pair-questions first-no fields-ok
   no-7-second l h = by count l
     where
-      by : (k : ℕ) → k < 2 → refused 7 ≡ first-no (ask (fields-ok k first second) 7 ∷ ask (targets-ok n t (used-fields k first second)) 8 ∷ [])
+      by : (k : ℕ) → k < 2 →
+          refused 7 ≡ first-no (ask (fields-ok k first second) 7 ∷ ask (targets-ok n t (used-fields k first second)) 8 ∷ [])
       by zero l = rw (ne-eqb second 0 h, and-false (eqb first 0))
       by (suc zero) l = rw (ne-eqb second 0 h)
       by (suc (suc more)) l = absurd (omega arith)
@@ -111,14 +113,16 @@ module _ (n t first : ℕ) where
   fits-two (suc zero) second h = rw (ne-eqb second 0 h)
   fits-two (suc (suc zero)) second h = by (ltb t first) (ltb first n) (ltb t second) (ltb second n) (eqb first second)
     where
-      by : (a b c d e : Bool) → (a && b && c && d && not e) ≡ passes (first-no (ask true 7 ∷ ask ((a && b && (c && d && true)) && not e) 8 ∷ []))
+      by : (a b c d e : Bool) → (a && b && c && d && not e) ≡
+          passes (first-no (ask true 7 ∷ ask ((a && b && (c && d && true)) && not e) 8 ∷ []))
       by true true true true true = refl
       by true true true true false = refl
       by true true true false e = refl
       by true true false d e = refl
       by true false c d e = refl
       by false b c d e = refl
-  fits-two (suc (suc (suc more))) second h = rw (ne-eqb (suc (suc (suc more))) 2 (λ e. omega arith), le-leb 1 (suc (suc (suc more))) (omega arith))
+  fits-two (suc (suc (suc more))) second h =
+      rw (ne-eqb (suc (suc (suc more))) 2 (λ e. omega arith), le-leb 1 (suc (suc (suc more))) (omega arith))
 
   pub fits-asked : (count second last : ℕ) → last ≡ cond (eqb second 0) first second →
       (eqb count (2 - boolByte (eqb second 0)) && ltb t first && ltb first n && ltb t last && ltb last n && not (eqb first second))
@@ -126,14 +130,15 @@ module _ (n t first : ℕ) where
   fits-asked count zero last e = rw e (fits-one count)
   fits-asked count (suc s) last e = rw (e, ne-eqb (suc s) 0 (λ z. omega arith)) (fits-two count (suc s) (λ z. omega arith))
 
-module _ (n t count first second : ℕ) (r : Bool) (asked : r ≡ (leb 1 count && passes (first-no (pair-questions n t count first second)))) where
+module _ (n t count first second : ℕ) (r : Bool)
+    (asked : r ≡ (leb 1 count && passes (first-no (pair-questions n t count first second)))) where
   pub fitting : r ≡ true → accepted ≡ first-no (pair-questions n t count first second)
-  fitting yes' = sym (passes-is _ (second-holds (leb 1 count) _ (sym asked ∙ yes')))
+  fitting yes' = sym (passes-is _ (and-right (leb 1 count) _ (sym asked ∙ yes')))
 
   -- 7 passes, so that it is 8 that does not
   not-eight : (b : Bool) → passes (first-no (ask true 7 ∷ ask b 8 ∷ [])) ≡ false → refused 8 ≡ first-no (ask true 7 ∷ ask b 8 ∷ [])
   unfolding first-no
-  not-eight true h = let z : _≡_ {A = Bool} true false = h in absurd (let w : _≡_ {A = ℕ} 0 1 = cc in omega arith)
+  not-eight true h = absurd (true-is-not-false refl h)
   not-eight false h = refl
 
   pub two-unfit : r ≡ false → count ≡ 2 → refused 8 ≡ first-no (pair-questions n t count first second)

@@ -11,23 +11,31 @@ use lib.Dec.{leb, eqb}
 use lib.ListN.{length, drop}
 use Rattle.model.specs.Tests.{below, is-empty, member}
 use Rattle.model.specs.Questions.{Answer, accepted, refused, first-no}
-use Rattle.model.specs.Plan.{Plan, tasks, successors-of, predecessors, task-count, count-field, first-field, second-field, successor-fields, plan-of, task-questions, header-questions, graph-questions, all-preceded, one-exit, plan-questions, plan-answer}
-use Rattle.model.specs.Statements.{SoundPlan}
+use Rattle.model.specs.Plan.{Graph, tasks, successors-of, predecessors}
+use Rattle.model.specs.Plan.{task-count, count-field, first-field, second-field, successor-fields}
+use Rattle.model.specs.Plan.{plan-of, task-questions, header-questions, graph-questions, all-preceded, one-exit, plan-questions}
+use Rattle.model.specs.Plan.{plan-answer}
+use Rattle.model.specs.Statements.{SoundGraph, SoundPlan}
 use Rattle.plan.specs.Rules.{WellFormed, PlanRules, WithinBounds, Leads, nowhere, onward}
-use Rattle.plan.proofs.Lists.{below-mem, mem-below, mem-from-one, from-one-mem, every-at, every-holds, first-holds, second-holds, both-hold, keep-some, member-mem}
-use Rattle.plan.proofs.Asked.{and-then, first-no-append, first-accepted, second-accepted, ask-accepted, two-accepted, accepted-at, accepted-below}
-use Rattle.plan.proofs.Facts.{tasks-of, successors-given, HeaderFacts, header-facts, header-accepted, TargetFacts, TaskFacts, task-facts, task-accepted, used-most, same-targets}
+use Rattle.lists.proofs.Tests.{and-left, and-right, both}
+use Rattle.lists.proofs.Lists.{every-at, every-from, below-has, below-is, is-member}
+use Rattle.lists.proofs.Ranges.{mem-from-one, from-one-mem, keep-some}
+use Rattle.plan.proofs.Asked.{and-then, first-no-append, first-accepted, second-accepted, ask-accepted, two-accepted, accepted-at}
+use Rattle.plan.proofs.Asked.{accepted-below}
+use Rattle.plan.proofs.Facts.{tasks-of, successors-given, HeaderFacts, header-facts, header-accepted, TargetFacts, TaskFacts}
+use Rattle.plan.proofs.Facts.{task-facts, task-accepted, used-most, same-targets}
 
 -- ---- the three parts of the questions
 
 -- the answer, part by part
 pub answer-parts : (bytes : List ℕ) → plan-answer bytes ≡
     and-then (first-no (header-questions bytes))
-    (and-then (first-no (flatMap (task-questions bytes) (below (task-count bytes)))) (first-no (graph-questions (plan-of bytes))))
+    (and-then (first-no (flatMap (task-questions bytes) (below (task-count bytes)))) (first-no (graph-questions (plan-of bytes .graph))))
 unfolding plan-answer plan-questions
 answer-parts bytes =
-    first-no-append (header-questions bytes ++ flatMap (task-questions bytes) (below (task-count bytes))) (graph-questions (plan-of bytes))
-    ∙ (ap (λ a. and-then a (first-no (graph-questions (plan-of bytes))))
+    first-no-append (header-questions bytes ++ flatMap (task-questions bytes) (below (task-count bytes)))
+    (graph-questions (plan-of bytes .graph))
+    ∙ (ap (λ a. and-then a (first-no (graph-questions (plan-of bytes .graph))))
     (first-no-append (header-questions bytes) (flatMap (task-questions bytes) (below (task-count bytes))))
     ∙ regroup (first-no (header-questions bytes)) _ _)
   where
@@ -37,10 +45,10 @@ answer-parts bytes =
 
 -- ---- the graph: questions 9 and 10
 
-pub record GraphFacts (plan : Plan) : Type 0 where
-  pub preceded : (t : ℕ) → 1 ≤ t → t < tasks plan → 1 ≤ length (predecessors plan t)
-  pub preceded-twice : (t : ℕ) → 1 ≤ t → t < tasks plan → length (predecessors plan t) ≤ 2
-  pub exit-last : (t : ℕ) → t < tasks plan → (successors-of plan t ≡ []) ↔ (t + 1 ≡ tasks plan)
+pub record GraphFacts (graph : Graph) : Type 0 where
+  pub preceded : (t : ℕ) → 1 ≤ t → t < tasks graph → 1 ≤ length (predecessors graph t)
+  pub preceded-twice : (t : ℕ) → 1 ≤ t → t < tasks graph → length (predecessors graph t) ≤ 2
+  pub exit-last : (t : ℕ) → t < tasks graph → (successors-of graph t ≡ []) ↔ (t + 1 ≡ tasks graph)
 
 empty-exactly : (successors : List ℕ) (m n : ℕ) → Bool·beq (is-empty successors) (eqb m n) ≡ true → (successors ≡ []) ↔ (m ≡ n)
 empty-exactly [] m n h = by (eqb m n) refl h
@@ -58,31 +66,44 @@ exactly-empty : (successors : List ℕ) (m n : ℕ) → (successors ≡ []) ↔ 
 exactly-empty [] m n h = rw (eq-eqb m n (h .0 refl))
 exactly-empty (x ∷ xs) m n h = rw (ne-eqb m n (λ p. let q : x ∷ xs ≡ [] = h .1 p in let z : _≡_ {A = ℕ} 0 1 = cc in omega arith))
 
-pub graph-facts : (plan : Plan) → first-no (graph-questions plan) ≡ accepted → GraphFacts plan
-unfolding graph-questions all-preceded one-exit
-graph-facts plan h =
+preceded-test : Graph → ℕ → Bool
+preceded-test graph t = leb 1 (length (predecessors graph t)) && leb (length (predecessors graph t)) 2
+
+exit-test : Graph → ℕ → Bool
+exit-test graph t = Bool·beq (is-empty (successors-of graph t)) (eqb (t + 1) (tasks graph))
+
+pub graph-facts : (graph : Graph) → first-no (graph-questions graph) ≡ accepted → GraphFacts graph
+unfolding graph-questions all-preceded one-exit preceded-test exit-test
+graph-facts graph h =
     let a = ask-accepted _ _ _ h in
     let b = ask-accepted _ _ _ (a .1) in
-    let counted : (t : ℕ) → 1 ≤ t → t < tasks plan → (leb 1 (length (predecessors plan t)) && leb (length (predecessors plan t)) 2) ≡ true =
-    λ t l m. every-at (λ t. leb 1 (length (predecessors plan t)) && leb (length (predecessors plan t)) 2) (drop 1 (below (tasks plan))) (a .0) t (mem-from-one t (tasks plan) l m) in
+    let counted : (t : ℕ) → 1 ≤ t → t < tasks graph → preceded-test graph t ≡ true =
+    λ t l m. every-at (preceded-test graph) (drop 1 (below (tasks graph))) (a .0) t (mem-from-one t (tasks graph) l m) in
     record {
-      preceded = λ t l m. leb-true 1 (length (predecessors plan t)) (first-holds (leb 1 (length (predecessors plan t))) (leb (length (predecessors plan t)) 2) (counted t l m));
-      preceded-twice = λ t l m. leb-true (length (predecessors plan t)) 2 (second-holds (leb 1 (length (predecessors plan t))) (leb (length (predecessors plan t)) 2) (counted t l m));
-      exit-last = λ t l. empty-exactly (successors-of plan t) (t + 1) (tasks plan) (every-at (λ t. Bool·beq (is-empty (successors-of plan t)) (eqb (t + 1) (tasks plan))) (below (tasks plan)) (b .0) t (mem-below t (tasks plan) l));
+      preceded = λ t l m. leb-true 1 _ (and-left _ (leb (length (predecessors graph t)) 2) (counted t l m));
+      preceded-twice = λ t l m. leb-true _ 2 (and-right (leb 1 (length (predecessors graph t))) _ (counted t l m));
+      exit-last = λ t l. empty-exactly (successors-of graph t) (t + 1) (tasks graph)
+          (every-at (exit-test graph) (below (tasks graph)) (b .0) t (below-has (tasks graph) t l));
     }
 
-pub graph-accepted : (plan : Plan) → GraphFacts plan → first-no (graph-questions plan) ≡ accepted
+pub graph-accepted : (graph : Graph) → GraphFacts graph → first-no (graph-questions graph) ≡ accepted
 unfolding graph-questions all-preceded one-exit
-graph-accepted plan h =
+graph-accepted graph h =
     two-accepted 9 10
-    (every-holds _ (drop 1 (below (tasks plan)))
-    (λ t m. let w = from-one-mem t (tasks plan) m in
-    both-hold (le-leb 1 (length (predecessors plan t)) (h .preceded t (w .0) (w .1))) (le-leb (length (predecessors plan t)) 2 (h .preceded-twice t (w .0) (w .1)))))
-    (every-holds _ (below (tasks plan)) (λ t m. exactly-empty (successors-of plan t) (t + 1) (tasks plan) (h .exit-last t (below-mem t (tasks plan) m))))
+    (every-from _ (drop 1 (below (tasks graph)))
+    (λ t m. let w = from-one-mem t (tasks graph) m in
+    both _ _ (le-leb 1 _ (h .preceded t (w .0) (w .1))) (le-leb _ 2 (h .preceded-twice t (w .0) (w .1)))))
+    (every-from _ (below (tasks graph))
+    (λ t m. exactly-empty (successors-of graph t) (t + 1) (tasks graph) (h .exit-last t (below-is (tasks graph) t m))))
 
 -- ---- accepted exactly when the rules hold
 
 module _ (bytes : List ℕ) where
+  after-header : plan-answer bytes ≡ accepted →
+      and-then (first-no (flatMap (task-questions bytes) (below (task-count bytes)))) (first-no (graph-questions (plan-of bytes .graph)))
+      ≡ accepted
+  after-header h = second-accepted (first-no (header-questions bytes)) _ (sym (answer-parts bytes) ∙ h)
+
   header-part : plan-answer bytes ≡ accepted → HeaderFacts bytes
   header-part h = header-facts bytes (first-accepted _ _ (sym (answer-parts bytes) ∙ h))
 
@@ -90,34 +111,38 @@ module _ (bytes : List ℕ) where
   task-part h t l =
       task-facts bytes t
       (accepted-at (task-questions bytes) (task-count bytes)
-      (first-accepted _ (first-no (graph-questions (plan-of bytes))) (second-accepted (first-no (header-questions bytes)) _ (sym (answer-parts bytes) ∙ h))) t l)
+      (first-accepted _ (first-no (graph-questions (plan-of bytes .graph))) (after-header h)) t l)
 
-  graph-part : plan-answer bytes ≡ accepted → GraphFacts (plan-of bytes)
+  graph-part : plan-answer bytes ≡ accepted → GraphFacts (plan-of bytes .graph)
   graph-part h =
-      graph-facts (plan-of bytes)
-      (second-accepted (first-no (flatMap (task-questions bytes) (below (task-count bytes)))) _ (second-accepted (first-no (header-questions bytes)) _ (sym (answer-parts bytes) ∙ h)))
+      graph-facts (plan-of bytes .graph)
+      (second-accepted (first-no (flatMap (task-questions bytes) (below (task-count bytes)))) _ (after-header h))
 
   pub accepted-sound : plan-answer bytes ≡ accepted → SoundPlan (plan-of bytes)
   unfolding plan-of successor-fields
   accepted-sound h =
       let header = header-part h in
       let graph = graph-part h in
-      let below-count : (t : ℕ) → t < tasks (plan-of bytes) → t < task-count bytes = λ t l. rw (tasks-of bytes) at l in
-      let targets : (t : ℕ) → t < tasks (plan-of bytes) → TargetFacts (tasks (plan-of bytes)) t (successors-of (plan-of bytes) t) =
-      λ t l. same-targets (sym (tasks-of bytes)) (sym (successors-given bytes t (below-count t l))) (task-part h t (below-count t l) .targets) in
+      let below-count : (t : ℕ) → t < tasks (plan-of bytes .graph) → t < task-count bytes = λ t l. rw (tasks-of bytes) at l in
+      let targets : (t : ℕ) → t < tasks (plan-of bytes .graph) →
+      TargetFacts (tasks (plan-of bytes .graph)) t (successors-of (plan-of bytes .graph) t) =
+      λ t l. let b = below-count t l in
+      same-targets (sym (tasks-of bytes)) (sym (successors-given bytes t b)) (task-part h t b .targets) in
       record {
-        responsive = header .responsive;
-        utilized = header .utilized;
-        percent = header .percent;
-        timed = header .timed;
-        some-task = rw (tasks-of bytes) (omega arith);
-        two-at-most = λ t l. rw (successors-given bytes t (below-count t l)) (used-most (count-field bytes t) (first-field bytes t) (second-field bytes t));
-        upward = λ t s l m. targets t l .upward s m;
-        inside = λ t s l m. targets t l .inside s m;
-        apart = λ t a b l e. targets t l .apart a b e;
-        preceded = graph .preceded;
-        preceded-twice = graph .preceded-twice;
-        exit-last = graph .exit-last;
+        terms = record { responsive = header .responsive; utilized = header .utilized; percent = header .percent; timed = header .timed };
+        graph =
+            record {
+              some-task = rw (tasks-of bytes) (omega arith);
+              two-at-most = λ t l.
+                  rw (successors-given bytes t (below-count t l))
+                  (used-most (count-field bytes t) (first-field bytes t) (second-field bytes t));
+              upward = λ t s l m. targets t l .upward s m;
+              inside = λ t s l m. targets t l .inside s m;
+              apart = λ t a b l e. targets t l .apart a b e;
+              preceded = graph .preceded;
+              preceded-twice = graph .preceded-twice;
+              exit-last = graph .exit-last;
+            };
       }
 
   pub accepted-well-formed : plan-answer bytes ≡ accepted → WellFormed bytes
@@ -132,9 +157,10 @@ module _ (bytes : List ℕ) where
         second-unused = λ t l. task-part h t l .fields .second-unused;
       }
 
-  sound-targets : SoundPlan (plan-of bytes) → (t : ℕ) → t < task-count bytes → TargetFacts (task-count bytes) t (successor-fields bytes t)
+  sound-targets : SoundGraph (plan-of bytes .graph) → (t : ℕ) → t < task-count bytes →
+      TargetFacts (task-count bytes) t (successor-fields bytes t)
   sound-targets sound t l =
-      let inside-plan : t < tasks (plan-of bytes) = rw (tasks-of bytes) l in
+      let inside-plan : t < tasks (plan-of bytes .graph) = rw (tasks-of bytes) l in
       same-targets (tasks-of bytes) (successors-given bytes t l)
       (record {
         upward = λ s. sound .upward t s inside-plan;
@@ -158,10 +184,10 @@ module _ (bytes : List ℕ) where
           (record {
             long-enough = form .long-enough;
             known-form = form .known-form;
-            responsive = sound .responsive;
-            utilized = sound .utilized;
-            percent = sound .percent;
-            timed = sound .timed;
+            responsive = sound .terms .responsive;
+            utilized = sound .terms .utilized;
+            percent = sound .terms .percent;
+            timed = sound .terms .timed;
             exact-length = form .exact-length;
           })
 
@@ -170,12 +196,18 @@ module _ (bytes : List ℕ) where
           accepted-below (task-questions bytes) (task-count bytes)
           (λ t l. task-accepted bytes t
           (record {
-            fields = record { two-fields = form .two-fields t l; first-unused = form .first-unused t l; second-unused = form .second-unused t l };
-            targets = sound-targets sound t l;
+            fields = record {
+              two-fields = form .two-fields t l;
+              first-unused = form .first-unused t l;
+              second-unused = form .second-unused t l;
+            };
+            targets = sound-targets (sound .graph) t l;
           }))
 
-      graph : first-no (graph-questions (plan-of bytes)) ≡ accepted
-      graph = graph-accepted (plan-of bytes) (record { preceded = sound .preceded; preceded-twice = sound .preceded-twice; exit-last = sound .exit-last })
+      graph : first-no (graph-questions (plan-of bytes .graph)) ≡ accepted
+      graph =
+          graph-accepted (plan-of bytes .graph)
+          (record { preceded = sound .graph .preceded; preceded-twice = sound .graph .preceded-twice; exit-last = sound .graph .exit-last })
 
   -- "Accepted when it meets the plan rules and only then"
   pub accepted-exactly : (plan-answer bytes ≡ accepted) ↔ PlanRules bytes
@@ -191,16 +223,16 @@ within-bounds bytes =
 -- ---- every task is reached from task 0
 
 -- each task from 1 has a predecessor below it, so the path is found by going down
-reached-below : (plan : Plan) → SoundPlan plan → (bound t : ℕ) → t < bound → t < tasks plan → Leads plan 0 t
+reached-below : (graph : Graph) → SoundGraph graph → (bound t : ℕ) → t < bound → t < tasks graph → Leads graph 0 t
 unfolding predecessors
-reached-below plan sound zero t b l = absurd (omega arith)
-reached-below plan sound (suc bound) zero b l = nowhere refl
-reached-below plan sound (suc bound) (suc t) b l =
-    let found = keep-some (λ p. member (suc t) (successors-of plan p)) (below (tasks plan)) (sound .preceded (suc t) (omega arith) l) in
-    let follows : List·Memᴰ (suc t) (successors-of plan (found .0)) = member-mem (suc t) (successors-of plan (found .0)) (found .2) in
-    let inside : found .0 < tasks plan = below-mem (found .0) (tasks plan) (found .1) in
+reached-below graph sound zero t b l = absurd (omega arith)
+reached-below graph sound (suc bound) zero b l = nowhere refl
+reached-below graph sound (suc bound) (suc t) b l =
+    let found = keep-some (λ p. member (suc t) (successors-of graph p)) (below (tasks graph)) (sound .preceded (suc t) (omega arith) l) in
+    let follows : List·Memᴰ (suc t) (successors-of graph (found .0)) = is-member (suc t) (successors-of graph (found .0)) (found .2) in
+    let inside : found .0 < tasks graph = below-is (tasks graph) (found .0) (found .1) in
     let rising : found .0 < suc t = sound .upward (found .0) (suc t) inside follows in
-    onward (reached-below plan sound bound (found .0) (omega arith) inside) follows
+    onward (reached-below graph sound bound (found .0) (omega arith) inside) follows
 
-pub all-reached : (plan : Plan) → SoundPlan plan → (t : ℕ) → t < tasks plan → Leads plan 0 t
-all-reached plan sound t l = reached-below plan sound (suc t) t (omega arith) l
+pub all-reached : (graph : Graph) → SoundGraph graph → (t : ℕ) → t < tasks graph → Leads graph 0 t
+all-reached graph sound t l = reached-below graph sound (suc t) t (omega arith) l

@@ -6,80 +6,93 @@ use Prim.Native.Nat.{ℕ, zero, suc, _+_, _*_, _≤_, _<_}
 use native.Mathlib.Nat.{add-zero}
 use native.Mathlib.Numerals.{add-one}
 use native.Mathlib.Omega.{arith}
-use lib.ListN.{getD, set}
+use lib.ListN.{getD}
 use Rattle.model.specs.Tests.{below, member}
 use Rattle.model.specs.Questions.{Question, Answer, accepted, refused, first-no}
-use Rattle.model.specs.Plan.{number, header, task-bits, task-count, count-field, first-field, second-field, used-fields, successor-fields, task-questions}
-use Rattle.plan.specs.Contracts.{five-bytes, three-bytes, pair-questions, saturated, noted, counted, Held, TaskOf, TaskRead, TasksRead}
+use Rattle.model.specs.Plan.{number, header, task-bits, task-count, count-field, first-field, second-field, used-fields, successor-fields}
+use Rattle.model.specs.Plan.{task-questions}
+use Rattle.memory.specs.Parts.{Parts, with-pending}
+use Rattle.plan.specs.Contracts.{five-bytes, three-bytes, pair-questions, saturated, noted, counted, Held, TaskOf, TaskRead}
+use Rattle.plan.specs.Contracts.{TasksRead}
 use Rattle.plan.specs.declared.TaskFields.{TaskFields}
 use Rattle.plan.specs.declared.PlanAnswer.{PlanAnswer}
 use Rattle.plan.specs.declared.PlanAnswer.the-variants.{Accepted}
 use Rattle.plan.specs.Answers.{answer-of, passes}
-use Rattle.plan.proofs.Lists.{keep-below}
+use Rattle.lists.proofs.Ranges.{keep-below}
 use Rattle.plan.proofs.Asked.{and-then, first-no-below, passes-is, passes-not, refused-at}
 use Rattle.plan.proofs.Facts.{FieldFacts, TargetFacts, TaskFacts, task-facts}
-use Rattle.plan.proofs.Arrays.{stored-held, stored-ends, noted-ends, note-successors}
+use Rattle.plan.proofs.Stores.{with-fields, stored-held, stored-ends, noted-ends, note-successors}
 
 -- ---- bytes and fields
 
-pub header-bytes : (bytes : List ℕ) → header bytes ≡ five-bytes (getD bytes 0 0) (getD bytes 1 0) (getD bytes 2 0) (getD bytes 3 0) (getD bytes 4 0)
+pub header-bytes : (bytes : List ℕ) → header bytes ≡
+    five-bytes (getD bytes 0 0) (getD bytes 1 0) (getD bytes 2 0) (getD bytes 3 0) (getD bytes 4 0)
 unfolding header number
 header-bytes bytes = omega arith
 
-pub task-bytes : (bytes : List ℕ) (t : ℕ) → task-bits bytes t ≡ three-bytes (getD bytes (5 + 3 * t) 0) (getD bytes (5 + 3 * t + 1) 0) (getD bytes (5 + 3 * t + 2) 0)
+pub task-bytes : (bytes : List ℕ) (t : ℕ) → task-bits bytes t ≡
+    three-bytes (getD bytes (5 + 3 * t) 0) (getD bytes (5 + 3 * t + 1) 0) (getD bytes (5 + 3 * t + 2) 0)
 unfolding task-bits number
 task-bytes bytes t = rw (add-zero (5 + 3 * t)) (omega arith)
 
-pub task-asked : (bytes : List ℕ) (t : ℕ) → pair-questions (task-count bytes) t (count-field bytes t) (first-field bytes t) (second-field bytes t) ≡ task-questions bytes t
+pub task-asked : (bytes : List ℕ) (t : ℕ) →
+    pair-questions (task-count bytes) t (count-field bytes t) (first-field bytes t) (second-field bytes t) ≡ task-questions bytes t
 unfolding pair-questions task-questions successor-fields
 task-asked bytes t = refl
 
 -- a field that is used is below N, and one that is not is 0
-first-below : (n t count first second : ℕ) → 1 ≤ n → FieldFacts count first second → TargetFacts n t (used-fields count first second) → first < n
-first-below n t zero first second l f g = omega (arith, f .first-unused refl)
-first-below n t (suc zero) first second l f g = g .inside first (List·Memᴰ·head refl)
-first-below n t (suc (suc more)) first second l f g = g .inside first (List·Memᴰ·head refl)
+module _ (n t : ℕ) (some : 1 ≤ n) where
+  first-below : (count first second : ℕ) → FieldFacts count first second → TargetFacts n t (used-fields count first second) → first < n
+  first-below zero first second f g = omega (arith, f .first-unused refl)
+  first-below (suc zero) first second f g = g .inside first (List·Memᴰ·head refl)
+  first-below (suc (suc more)) first second f g = g .inside first (List·Memᴰ·head refl)
 
-second-below : (n t count first second : ℕ) → 1 ≤ n → FieldFacts count first second → TargetFacts n t (used-fields count first second) → second < n
-second-below n t zero first second l f g = omega (arith, f .second-unused (omega arith))
-second-below n t (suc zero) first second l f g = omega (arith, f .second-unused (omega arith))
-second-below n t (suc (suc more)) first second l f g = g .inside second (List·Memᴰ·tail (List·Memᴰ·head refl))
+  second-below : (count first second : ℕ) → FieldFacts count first second → TargetFacts n t (used-fields count first second) → second < n
+  second-below zero first second f g = omega (arith, f .second-unused (omega arith))
+  second-below (suc zero) first second f g = omega (arith, f .second-unused (omega arith))
+  second-below (suc (suc more)) first second f g = g .inside second (List·Memᴰ·tail (List·Memᴰ·head refl))
 
 module _ (bytes : List ℕ) (t : ℕ) (passed : first-no (task-questions bytes t) ≡ accepted) where
+  facts : TaskFacts bytes t
+  facts = task-facts bytes t passed
+
   pub first-inside : first-field bytes t < task-count bytes
   unfolding successor-fields
   first-inside =
-      let facts = task-facts bytes t passed in
-      first-below (task-count bytes) t (count-field bytes t) (first-field bytes t) (second-field bytes t) (omega arith) (facts .fields) (facts .targets)
+      first-below (task-count bytes) t (omega arith) (count-field bytes t) _ (second-field bytes t) (facts .fields) (facts .targets)
 
   pub second-inside : second-field bytes t < task-count bytes
   unfolding successor-fields
   second-inside =
-      let facts = task-facts bytes t passed in
-      second-below (task-count bytes) t (count-field bytes t) (first-field bytes t) (second-field bytes t) (omega arith) (facts .fields) (facts .targets)
+      second-below (task-count bytes) t (omega arith) (count-field bytes t) (first-field bytes t) _ (facts .fields) (facts .targets)
 
   -- one task more
-  pub held-more : (first second counts : List ℕ) → t < task-count bytes → Held bytes t first second counts →
-      Held bytes (t + 1) (set first t (first-field bytes t)) (set second t (second-field bytes t)) (noted (noted counts (first-field bytes t)) (second-field bytes t))
+  pub held-more : (p : Parts) → t < task-count bytes → Held bytes t p →
+      Held bytes (t + 1)
+      (with-pending (with-fields p t (first-field bytes t) (second-field bytes t))
+      (noted (noted (p .pending) (first-field bytes t)) (second-field bytes t)))
   unfolding successor-fields counted
-  held-more first second counts l h =
+  held-more p l h =
       rw add-one
       (record {
-        accepted-so-far = first-no-below (task-questions bytes) t ∙ (ap (λ a. and-then a (first-no (task-questions bytes t))) (h .accepted-so-far) ∙ passed);
-        first-held = stored-held (first-field bytes) first t (h .first-ends) small (h .first-held);
-        second-held = stored-held (second-field bytes) second t (h .second-ends) small (h .second-held);
+        accepted-so-far =
+            first-no-below (task-questions bytes) t
+            ∙ (ap (λ a. and-then a (first-no (task-questions bytes t))) (h .accepted-so-far) ∙ passed);
+        first-held = stored-held (first-field bytes) (p .first) t (h .first-ends) small (h .first-held);
+        second-held = stored-held (second-field bytes) (p .second) t (h .second-ends) small (h .second-held);
         counts-held = λ u m.
-            note-successors (counted bytes t) counts (task-count bytes) t (count-field bytes t) (first-field bytes t) (second-field bytes t)
+            note-successors (counted bytes t) (p .pending) (task-count bytes) t (count-field bytes t) _ _
             (h .counts-ends .places) (omega arith) (facts .fields) (facts .targets) (h .counts-held) u m
-            ∙ ap saturated (sym (keep-below (λ p. member u (successor-fields bytes p)) t));
-        first-ends = stored-ends (first-field bytes) first t (h .first-ends) small;
-        second-ends = stored-ends (second-field bytes) second t (h .second-ends) small;
-        counts-ends = noted-ends (task-count bytes) _ (second-field bytes t) second-inside (noted-ends (task-count bytes) counts (first-field bytes t) first-inside (h .counts-ends));
+            ∙ ap saturated (sym (keep-below (λ q. member u (successor-fields bytes q)) t));
+        first-ends = stored-ends (first-field bytes) (p .first) t (h .first-ends) small;
+        second-ends = stored-ends (second-field bytes) (p .second) t (h .second-ends) small;
+        counts-ends =
+            noted-ends (task-count bytes) _ (second-field bytes t) second-inside
+            (noted-ends (task-count bytes) (p .pending) (first-field bytes t) first-inside (h .counts-ends));
+        no-links = h .no-links;
+        no-deques = h .no-deques;
       })
     where
-      facts : TaskFacts bytes t
-      facts = task-facts bytes t passed
-
       small : t < 1024
       small = omega arith
 
@@ -95,8 +108,8 @@ module _ (bytes : List ℕ) (n t : ℕ) (f : TaskFields) (number : n ≡ task-co
       rw (number, at-task .count-read, at-task .first-read, at-task .second-read) (ap first-no (task-asked bytes t))
 
   module _ (r : PlanAnswer) (answered : answer-of r ≡ first-no (pair-questions n t (f .count) (f .first) (f .second))) where
-    pub read-refused : (first second counts : List ℕ) → passes (answer-of r) ≡ false → TaskRead bytes t r first second counts
-    read-refused first second counts fails =
+    pub read-refused : (p : Parts) → passes (answer-of r) ≡ false → TaskRead bytes t r p
+    read-refused p fails =
         record { answered = answered ∙ asked-as-read; held = λ passed. absurd (passes-not (answer-of r) fails passed) }
 
     module _ (holds : passes (answer-of r) ≡ true) where
@@ -109,29 +122,30 @@ module _ (bytes : List ℕ) (n t : ℕ) (f : TaskFields) (number : n ≡ task-co
       pub second-small : f .second < 1024
       second-small = rw (at-task .second-read) (omega (arith, second-inside bytes t task-passed))
 
-      pub read-passed : (first second counts counts-1 counts-2 : List ℕ) → t < n → Held bytes t first second counts →
-          counts-1 ≡ noted counts (f .first) → counts-2 ≡ noted counts-1 (f .second) → TaskRead bytes t r (set first t (f .first)) (set second t (f .second)) counts-2
-      read-passed first second counts counts-1 counts-2 l h e-1 e-2 =
+      -- the fields stored, and then noted
+      pub read-passed : (p p-fields p-1 p-2 : Parts) → t < n → Held bytes t p → p-fields ≡ with-fields p t (f .first) (f .second) →
+          p-1 ≡ with-pending p-fields (noted (p-fields .pending) (f .first)) → p-2 ≡ with-pending p-1 (noted (p-1 .pending) (f .second)) →
+          TaskRead bytes t r p-2
+      read-passed p p-fields p-1 p-2 l h e e-1 e-2 =
           record {
             answered = answered ∙ asked-as-read;
-            held = λ _. rw (e-2, e-1, at-task .first-read, at-task .second-read) (held-more bytes t task-passed first second counts (omega arith) h);
+            held = λ _. rw (e-2, e-1, e, at-task .first-read, at-task .second-read) (held-more bytes t task-passed p (omega arith) h);
           }
 
 -- ---- all tasks
 
-refused-there : (f : ℕ → List Question) (a : Answer) (t n : ℕ) → t < n → first-no (flatMap f (below t)) ≡ accepted → a ≡ first-no (f t) → passes a ≡ false → a ≡ first-no (flatMap f (below n))
+refused-there : (f : ℕ → List Question) (a : Answer) (t n : ℕ) → t < n → first-no (flatMap f (below t)) ≡ accepted → a ≡ first-no (f t) →
+    passes a ≡ false → a ≡ first-no (flatMap f (below n))
 refused-there f accepted t n l before e fails = absurd (passes-not accepted fails refl)
 refused-there f (refused k) t n l before e fails = sym (refused-at f t n k l before (sym e))
 
-module _ (bytes : List ℕ) (n t : ℕ) (first second counts : List ℕ) (held : Held bytes t first second counts) where
-  pub tasks-refused : (r : PlanAnswer) (first' second' counts' : List ℕ) → t < n → TaskRead bytes t r first' second' counts' → passes (answer-of r) ≡ false →
-      TasksRead bytes n r first' second' counts'
-  tasks-refused r first' second' counts' l task fails =
+module _ (bytes : List ℕ) (n t : ℕ) (p : Parts) (held : Held bytes t p) where
+  pub tasks-refused : (r : PlanAnswer) (p′ : Parts) → t < n → TaskRead bytes t r p′ → passes (answer-of r) ≡ false → TasksRead bytes n r p′
+  tasks-refused r p′ l task fails =
       record {
         answered = refused-there (task-questions bytes) (answer-of r) t n l (held .accepted-so-far) (task .answered) fails;
         held = λ passed. absurd (passes-not (answer-of r) fails passed);
       }
 
-  pub tasks-all : t ≡ n → TasksRead bytes n Accepted first second counts
-  tasks-all e =
-      rw (← e) (record { answered = sym (held .accepted-so-far); held = λ _. held })
+  pub tasks-all : t ≡ n → TasksRead bytes n Accepted p
+  tasks-all e = rw (← e) (record { answered = sym (held .accepted-so-far); held = λ _. held })

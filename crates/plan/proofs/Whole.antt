@@ -1,21 +1,30 @@
--- From all tasks read to the whole plan: questions 9 and 10 are asked of the arrays, and the arrays show the plan of the bytes.
+-- From all tasks read to the whole plan: questions 9 and 10 are asked of the memory's parts, and these show the plan of the bytes.
 use mathlib.Core.Path.{_≡_, refl, sym, _∙_, ap}
 use mathlib.Core.Bool.{Bool, true, false, cond, not, _&&_, and-true, Bool·beq}
+use mathlib.Core.Logic.{⊎-elim}
 use mathlib.Core.List.{List, [], _∷_, map, flatMap, List·Memᴰ·head, List·Memᴰ·tail}
 use Prim.Native.Nat.{ℕ, zero, suc, _+_, _-_, _≤_, _<_}
+use native.Mathlib.Nat.{eq-zero-or-pos}
 use native.Mathlib.Omega.{arith}
 use borrow.Author.Tests.{le-leb, lt-leb, lt-ltb, le-ltb, eq-eqb, ne-eqb}
 use lib.Dec.{leb, eqb}
 use lib.ListN.{length, getD, set, drop, replicate, length-set, length-replicate}
-use lib.Seq.{getD-set-same, getD-set-other}
+use lib.Seq.{getD-set-same, getD-set-other, ext-getD}
 use Rattle.model.specs.Tests.{below, every, keep, is-empty, member}
 use Rattle.model.specs.Questions.{first-no}
-use Rattle.model.specs.Plan.{tasks, successors-of, predecessors, responsiveness-field, utilization-field, quantum-length-field, task-count, count-field, first-field, second-field, used-fields, successor-fields, plan-of, task-questions, all-preceded, one-exit}
-use Rattle.plan.specs.declared.PlanRecord.{PlanRecord}
-use Rattle.plan.specs.View.{shown, successors-at, successors-view, plan-view, Ends}
-use Rattle.plan.specs.Contracts.{saturated, counted, Held, one-or-two, followed}
+use Rattle.model.specs.Plan.{tasks, successors-of, predecessors, responsiveness-field, utilization-field, quantum-length-field, task-count}
+use Rattle.model.specs.Plan.{count-field, first-field, second-field, used-fields, successor-fields, plan-of, task-questions, all-preceded}
+use Rattle.model.specs.Plan.{one-exit}
+use Rattle.lists.proofs.Lists.{below-is, is-member}
+use Rattle.memory.specs.Parts.{Parts, region, parts, with-pending}
+use Rattle.memory.specs.Graphs.{shown, successors-at, successors-view}
+use Rattle.memory.proofs.Regions.{region-at, region-length}
+use Rattle.lists.proofs.Tables.{table-same}
+use Rattle.plan.specs.declared.Heading.{Heading}
+use Rattle.plan.specs.Headings.{plan-view, Ends}
+use Rattle.plan.specs.Contracts.{saturated, counted, Held, one-or-two, followed, no-memory}
 use Rattle.plan.specs.Promise.{Holds}
-use Rattle.plan.proofs.Lists.{below-mem, from-one-mem, map-cong, every-cong, every-below, keep-cong, keep-none, not-member}
+use Rattle.lists.proofs.Ranges.{from-one-mem, every-cong, every-below, keep-cong, keep-some}
 use Rattle.plan.proofs.Asked.{accepted-at}
 use Rattle.plan.proofs.Facts.{tasks-of, successors-given, FieldFacts, TargetFacts, TaskFacts, task-facts}
 use Rattle.plan.proofs.Sound.{GraphFacts}
@@ -42,7 +51,8 @@ saturated-small n l = rw (lt-ltb n 3 (omega arith))
 
 -- ---- the successors that two fields show
 
-shown-used : (n t count first second : ℕ) → FieldFacts count first second → TargetFacts n t (used-fields count first second) → shown first second ≡ used-fields count first second
+shown-used : (n t count first second : ℕ) → FieldFacts count first second → TargetFacts n t (used-fields count first second) →
+    shown first second ≡ used-fields count first second
 unfolding shown
 shown-used n t zero first second f g = rw (f .first-unused refl)
 shown-used n t (suc zero) first second f g =
@@ -65,71 +75,78 @@ empty-shown first second = by (eqb first 0) (eqb second 0)
 
 -- ---- predecessors
 
-pub predecessors-counted : (bytes : List ℕ) (t : ℕ) → length (predecessors (plan-of bytes) t) ≡ counted bytes (task-count bytes) t
+pub predecessors-counted : (bytes : List ℕ) (t : ℕ) → length (predecessors (plan-of bytes .graph) t) ≡ counted bytes (task-count bytes) t
 unfolding predecessors counted
 predecessors-counted bytes t =
     ap length
-    (ap (λ n. keep (λ p. member t (successors-of (plan-of bytes) p)) (below n)) (tasks-of bytes)
-    ∙ keep-cong _ _ (below (task-count bytes)) (λ p m. ap (member t) (successors-given bytes p (below-mem p (task-count bytes) m))))
+    (ap (λ n. keep (λ p. member t (successors-of (plan-of bytes .graph) p)) (below n)) (tasks-of bytes)
+    ∙ keep-cong _ _ (below (task-count bytes)) (λ p m. ap (member t) (successors-given bytes p (below-is (task-count bytes) p m))))
 
-module _ (bytes first second counts : List ℕ) (held : Held bytes (task-count bytes) first second counts) where
+module _ (bytes : List ℕ) (p : Parts) (held : Held bytes (task-count bytes) p) where
   task-at : (t : ℕ) → t < task-count bytes → TaskFacts bytes t
   task-at t l = task-facts bytes t (accepted-at (task-questions bytes) (task-count bytes) (held .accepted-so-far) t l)
 
   -- no task has task 0 as a successor
   first-task : counted bytes (task-count bytes) 0 ≡ 0
   unfolding counted
-  first-task =
-      ap length
-      (keep-none (λ p. member 0 (successor-fields bytes p)) (below (task-count bytes))
-      (λ p m. not-member 0 (successor-fields bytes p)
-      (λ s k e. let up : p < s = task-at p (below-mem p (task-count bytes) m) .targets .upward s k in omega arith)))
+  first-task = ⊎-elim (λ e. e) (λ some. absurd (above some)) (eq-zero-or-pos _)
+    where
+      above : 1 ≤ counted bytes (task-count bytes) 0 → ⊥
+      above some =
+          let found = keep-some (λ q. member 0 (successor-fields bytes q)) (below (task-count bytes)) some in
+          let q = found .0 in
+          let facts = task-at q (below-is (task-count bytes) q (found .1)) in
+          omega (arith, facts .targets .upward 0 (is-member 0 (successor-fields bytes q) (found .2)))
 
   -- with 0 at task 0, whose count has the unused fields
-  pub counts-are : GraphFacts (plan-of bytes) → (t : ℕ) → t < task-count bytes → getD (set counts 0 0) t 0 ≡ length (predecessors (plan-of bytes) t)
+  pub counts-are : GraphFacts (plan-of bytes .graph) → (t : ℕ) → t < task-count bytes →
+      getD (set (p .pending) 0 0) t 0 ≡ length (predecessors (plan-of bytes .graph) t)
   counts-are graph zero l =
-      getD-set-same counts 0 0 0 (omega (arith, held .counts-ends .places)) ∙ sym (predecessors-counted bytes 0 ∙ first-task)
+      getD-set-same (p .pending) 0 0 0 (omega (arith, held .counts-ends .places)) ∙ sym (predecessors-counted bytes 0 ∙ first-task)
   counts-are graph (suc t) l =
-      getD-set-other counts 0 (suc t) 0 0 (λ e. omega arith)
+      getD-set-other (p .pending) 0 (suc t) 0 0 (λ e. omega arith)
       ∙ (held .counts-held (suc t) (omega arith)
       ∙ (ap saturated (sym (predecessors-counted bytes (suc t)))
-      ∙ saturated-small (length (predecessors (plan-of bytes) (suc t))) (graph .preceded-twice (suc t) (omega arith) (rw (tasks-of bytes) l))))
+      ∙ saturated-small _ (graph .preceded-twice (suc t) (omega arith) (rw (tasks-of bytes) l))))
 
-  counts-end : Ends (task-count bytes) (set counts 0 0)
+  counts-end : Ends (task-count bytes) (set (p .pending) 0 0)
   counts-end =
       record {
-        places = length-set counts 0 0 ∙ held .counts-ends .places;
-        nothing-past = λ t l. getD-set-other counts 0 t 0 0 (λ e. omega arith) ∙ held .counts-ends .nothing-past t l;
+        places = length-set (p .pending) 0 0 ∙ held .counts-ends .places;
+        nothing-past = λ t l. getD-set-other (p .pending) 0 t 0 0 (λ e. omega arith) ∙ held .counts-ends .nothing-past t l;
       }
 
-  -- ---- questions 9 and 10, of the arrays
+  -- ---- questions 9 and 10, of the parts
 
-  pub question-9 : every (one-or-two counts) (drop 1 (below (task-count bytes))) ≡ all-preceded (plan-of bytes)
+  pub question-9 : every (one-or-two (p .pending)) (drop 1 (below (task-count bytes))) ≡ all-preceded (plan-of bytes .graph)
   unfolding all-preceded one-or-two
   question-9 =
       rw (tasks-of bytes)
       (every-cong _ _ (drop 1 (below (task-count bytes)))
-      (λ t m. rw (held .counts-held t (from-one-mem t (task-count bytes) m .0), predecessors-counted bytes t, saturated-some, saturated-two)))
+      (λ t m. let above = from-one-mem t (task-count bytes) m .0 in
+      rw (held .counts-held t above, predecessors-counted bytes t, saturated-some, saturated-two)))
 
-  successors-shown : (t : ℕ) → t < task-count bytes → successors-at first second t ≡ successor-fields bytes t
+  successors-shown : (t : ℕ) → t < task-count bytes → successors-at (p .first) (p .second) t ≡ successor-fields bytes t
   unfolding successors-at successor-fields
   successors-shown t l =
       rw (held .first-held t l, held .second-held t l)
-      (shown-used (task-count bytes) t (count-field bytes t) (first-field bytes t) (second-field bytes t) (task-at t l .fields) (task-at t l .targets))
+      (shown-used (task-count bytes) t (count-field bytes t) (first-field bytes t) (second-field bytes t)
+      (task-at t l .fields) (task-at t l .targets))
 
-  pub successors-are : successors-view first second (task-count bytes) ≡ map (successor-fields bytes) (below (task-count bytes))
+  pub successors-are : successors-view (p .first) (p .second) (task-count bytes) ≡ map (successor-fields bytes) (below (task-count bytes))
   unfolding successors-view
-  successors-are = map-cong _ _ (below (task-count bytes)) (λ t m. successors-shown t (below-mem t (task-count bytes) m))
+  successors-are = table-same (successor-fields bytes) (successors-at (p .first) (p .second)) (task-count bytes) successors-shown
 
   exit-test : ℕ → Bool
-  exit-test t = Bool·beq (is-empty (successors-of (plan-of bytes) t)) (eqb (t + 1) (task-count bytes))
+  exit-test t = Bool·beq (is-empty (successors-of (plan-of bytes .graph) t)) (eqb (t + 1) (task-count bytes))
 
   -- a task before the last has a successor exactly when its first field shows one
-  before-last : (t : ℕ) → t < task-count bytes - 1 → exit-test t ≡ followed first t
+  before-last : (t : ℕ) → t < task-count bytes - 1 → exit-test t ≡ followed (p .first) t
   unfolding exit-test followed successors-at
   before-last t l =
-      rw (successors-given bytes t (omega arith), ← successors-shown t (omega arith), empty-shown, ne-eqb (t + 1) (task-count bytes) (λ e. omega arith))
-      (against (eqb (getD first t 0) 0))
+      let other : eqb (t + 1) (task-count bytes) ≡ false = ne-eqb (t + 1) (task-count bytes) (λ e. omega arith) in
+      rw (successors-given bytes t (omega arith), ← successors-shown t (omega arith), empty-shown, other)
+      (against (eqb (getD (p .first) t 0) 0))
     where
       against : (b : Bool) → Bool·beq b false ≡ not b
       against true = refl
@@ -148,53 +165,64 @@ module _ (bytes first second counts : List ℕ) (held : Held bytes (task-count b
           let up : t < s = g .upward s (List·Memᴰ·head refl) in
           let low : s < task-count bytes = g .inside s (List·Memᴰ·head refl) in absurd (omega arith)
 
-  pub question-10 : every (followed first) (below (task-count bytes - 1)) ≡ one-exit (plan-of bytes)
+  pub question-10 : every (followed (p .first)) (below (task-count bytes - 1)) ≡ one-exit (plan-of bytes .graph)
   unfolding one-exit exit-test
   question-10 =
       let last : suc (task-count bytes - 1) ≡ task-count bytes = omega arith in
       sym
-      (ap (λ n. every (λ t. Bool·beq (is-empty (successors-of (plan-of bytes) t)) (eqb (t + 1) n)) (below n)) (tasks-of bytes)
+      (ap (λ n. every (λ t. Bool·beq (is-empty (successors-of (plan-of bytes .graph) t)) (eqb (t + 1) n)) (below n)) (tasks-of bytes)
       ∙ (ap (λ n. every exit-test (below n)) (sym last)
       ∙ (every-below exit-test (task-count bytes - 1)
       ∙ (ap (λ b. every exit-test (below (task-count bytes - 1)) && b) (at-last (task-count bytes - 1) (omega arith))
       ∙ (and-true (every exit-test (below (task-count bytes - 1)))
-      ∙ every-cong _ _ (below (task-count bytes - 1)) (λ t m. before-last t (below-mem t (task-count bytes - 1) m)))))))
+      ∙ every-cong _ _ (below (task-count bytes - 1)) (λ t m. before-last t (below-is (task-count bytes - 1) t m)))))))
 
-  -- ---- the record
+  -- ---- the memory
 
-  pub record-holds : (plan : PlanRecord) → plan .responsiveness ≡ responsiveness-field bytes → plan .utilization ≡ utilization-field bytes →
-      plan .«quantum_length» ≡ quantum-length-field bytes → plan .tasks ≡ task-count bytes →
-      plan .first ≡ first → plan .second ≡ second → plan .predecessors ≡ set counts 0 0 → GraphFacts (plan-of bytes) → Holds bytes plan
+  pub memory-holds : (r : Heading) (memory : List ℕ) → parts memory ≡ with-pending p (set (p .pending) 0 0) →
+      GraphFacts (plan-of bytes .graph) → r .responsiveness ≡ responsiveness-field bytes → r .utilization ≡ utilization-field bytes →
+      r .«quantum_length» ≡ quantum-length-field bytes → r .tasks ≡ task-count bytes → Holds bytes r memory
   unfolding plan-view plan-of
-  record-holds plan r u q n f s c graph =
+  memory-holds r memory e graph e-r e-u e-q e-n =
       record {
-        shows = rw (r, u, q, n, f, s, successors-are);
-        preceded = λ t l. rw c (counts-are graph t (omega arith));
-        first-ends = rw (n, f) (held .first-ends);
-        second-ends = rw (n, s) (held .second-ends);
-        predecessors-ends = rw (n, c) counts-end;
+        shows = rw (e, e-r, e-u, e-q, e-n, successors-are);
+        preceded = λ t l. rw e (counts-are graph t (omega arith));
+        first-ends = rw (e, e-n) (held .first-ends);
+        second-ends = rw (e, e-n) (held .second-ends);
+        pending-ends = rw (e, e-n) counts-end;
+        no-links = rw e (held .no-links);
+        no-deques = rw e (held .no-deques);
       }
 
--- ---- before the first task: arrays of zeros
+-- ---- before the first task: memory of zeros
 
 getD-zeros : (n t : ℕ) → getD {A = ℕ} (replicate n 0) t 0 ≡ 0
 getD-zeros zero t = refl
 getD-zeros (suc n) zero = refl
 getD-zeros (suc n) (suc t) = getD-zeros n t
 
-pub zeros-end : (n : ℕ) (xs : List ℕ) → xs ≡ replicate 1024 0 → Ends n xs
+region-zeros : (offset size n : ℕ) → offset + size ≤ n → region offset size (replicate n 0) ≡ replicate size 0
+region-zeros offset size n fits =
+    let sized : length (region offset size (replicate n 0)) ≡ size =
+    region-length offset size (replicate n 0) (rw (length-replicate {A = ℕ} n 0) fits) in
+    ext-getD 0 (region offset size (replicate n 0)) (replicate size 0) (sized ∙ sym (length-replicate size 0))
+    (λ i l. region-at offset size (replicate n 0) i 0 (rw sized at l) ∙ getD-zeros n (offset + i) ∙ sym (getD-zeros size i))
+
+zeros-end : (n : ℕ) (xs : List ℕ) → xs ≡ replicate 1024 0 → Ends n xs
 zeros-end n xs e =
     record { places = ap length e ∙ length-replicate {A = ℕ} 1024 0; nothing-past = λ t _. ap (λ l. getD l t 0) e ∙ getD-zeros 1024 t }
 
-pub nothing-held : (bytes first second counts : List ℕ) → first ≡ replicate 1024 0 → second ≡ replicate 1024 0 → counts ≡ replicate 1024 0 → Held bytes 0 first second counts
-unfolding first-no flatMap below counted keep saturated
-nothing-held bytes first second counts f s c =
+pub nothing-held : (bytes : List ℕ) → Held bytes 0 (parts no-memory)
+unfolding first-no flatMap below counted keep saturated parts no-memory
+nothing-held bytes =
     record {
       accepted-so-far = refl;
       first-held = λ t l. absurd (omega arith);
       second-held = λ t l. absurd (omega arith);
-      counts-held = λ t _. ap (λ l. getD l t 0) c ∙ getD-zeros 1024 t;
-      first-ends = zeros-end 0 first f;
-      second-ends = zeros-end 0 second s;
-      counts-ends = zeros-end (task-count bytes) counts c;
+      counts-held = λ t _. ap (λ l. getD l t 0) (region-zeros 3072 1024 4352 (omega arith)) ∙ getD-zeros 1024 t;
+      first-ends = zeros-end 0 _ (region-zeros 0 1024 4352 (omega arith));
+      second-ends = zeros-end 0 _ (region-zeros 1024 1024 4352 (omega arith));
+      counts-ends = zeros-end (task-count bytes) _ (region-zeros 3072 1024 4352 (omega arith));
+      no-links = region-zeros 2048 1024 4352 (omega arith);
+      no-deques = region-zeros 4096 256 4352 (omega arith);
     }

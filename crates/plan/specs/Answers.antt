@@ -2,7 +2,8 @@
 use mathlib.Core.Bool.{Bool, true, false}
 use Rattle.model.specs.Questions.{Answer, accepted, refused}
 use Rattle.plan.specs.declared.PlanAnswer.{PlanAnswer}
-use Rattle.plan.specs.declared.PlanAnswer.the-variants.{Accepted, Short, UnknownForm, LowResponsiveness, BadUtilization, NoQuantum, WrongLength, BadFields, BadSuccessors, BadPredecessors, LooseEnd}
+use Rattle.plan.specs.declared.PlanAnswer.the-variants.{Accepted, Short, UnknownForm, LowResponsiveness, BadUtilization, NoQuantum}
+use Rattle.plan.specs.declared.PlanAnswer.the-variants.{WrongLength, BadFields, BadSuccessors, BadPredecessors, LooseEnd}
 
 abbrev pub answer-of : PlanAnswer → Answer
 answer-of Accepted = accepted

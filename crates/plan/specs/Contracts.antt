@@ -2,19 +2,21 @@
 use mathlib.Core.Path.{_≡_}
 use mathlib.Core.Bool.{Bool, cond, not, _&&_}
 use mathlib.Core.List.{List, [], _∷_, flatMap}
-use Prim.Native.Nat.{ℕ, _+_, _*_, _-_, _≤_, _<_}
+use Prim.Native.Nat.{ℕ, _+_, _*_, _≤_, _<_}
 use lib.Dec.{leb, ltb, eqb}
-use lib.ListN.{length, getD, set}
+use lib.ListN.{length, getD, set, replicate}
 use Rattle.model.specs.Tests.{below, keep, member}
 use Rattle.model.specs.Questions.{Question, accepted, refused, ask, first-no}
-use Rattle.model.specs.Plan.{field, header, task-count, first-field, second-field, used-fields, successor-fields, fields-ok, targets-ok, task-questions, header-questions, plan-answer}
+use Rattle.model.specs.Plan.{field, header, task-count, first-field, second-field, used-fields, successor-fields, fields-ok, targets-ok}
+use Rattle.model.specs.Plan.{task-questions, header-questions, plan-answer}
+use Rattle.memory.specs.Parts.{Parts, memory-size}
 use Rattle.plan.specs.declared.Header.{Header}
 use Rattle.plan.specs.declared.TaskFields.{TaskFields}
 use Rattle.plan.specs.declared.Heading.{Heading}
 use Rattle.plan.specs.declared.PlanAnswer.{PlanAnswer}
 use Rattle.plan.specs.Answers.{answer-of}
-use Rattle.plan.specs.View.{Ends}
-use Rattle.plan.specs.Promise.{Holds, plan-with, no-heading}
+use Rattle.plan.specs.Headings.{Ends}
+use Rattle.plan.specs.Promise.{Holds, no-heading}
 
 -- ---- the fields
 
@@ -60,9 +62,9 @@ pub record HeaderRead (bytes : List ℕ) (h : Header) : Type 0 where
   pub fields : HeaderOf (header bytes) h
   pub passed : first-no (header-questions bytes) ≡ accepted
 
--- ---- the arrays while the tasks are read
+-- ---- the memory while the tasks are read
 
--- a count that stops at 3, so that it fits a byte; 3 is "three or more"
+-- a count that stops at 3, which is "three or more"
 unfoldable pub saturated : ℕ → ℕ
 saturated n = cond (ltb n 3) n 3
 
@@ -74,47 +76,52 @@ noted counts s = cond (ltb (getD counts s 0) 3) (set counts s (getD counts s 0 +
 unfoldable pub counted : List ℕ → ℕ → ℕ → ℕ
 counted bytes i t = length (keep (λ p. member t (successor-fields bytes p)) (below i))
 
--- the tasks below i are read and accepted, and the arrays hold their fields and nothing else, but for the count of task 0: there the
+-- the tasks below i are read and accepted, and the parts hold their fields and nothing else, but for the count of task 0: there the
 -- unused fields are noted
-pub record Held (bytes : List ℕ) (i : ℕ) (first second counts : List ℕ) : Type 0 where
+pub record Held (bytes : List ℕ) (i : ℕ) (p : Parts) : Type 0 where
   pub accepted-so-far : first-no (flatMap (task-questions bytes) (below i)) ≡ accepted
-  pub first-held : (t : ℕ) → t < i → getD first t 0 ≡ first-field bytes t
-  pub second-held : (t : ℕ) → t < i → getD second t 0 ≡ second-field bytes t
-  pub counts-held : (t : ℕ) → 1 ≤ t → getD counts t 0 ≡ saturated (counted bytes i t)
-  pub first-ends : Ends i first
-  pub second-ends : Ends i second
-  pub counts-ends : Ends (task-count bytes) counts
+  pub first-held : (t : ℕ) → t < i → getD (p .first) t 0 ≡ first-field bytes t
+  pub second-held : (t : ℕ) → t < i → getD (p .second) t 0 ≡ second-field bytes t
+  pub counts-held : (t : ℕ) → 1 ≤ t → getD (p .pending) t 0 ≡ saturated (counted bytes i t)
+  pub first-ends : Ends i (p .first)
+  pub second-ends : Ends i (p .second)
+  pub counts-ends : Ends (task-count bytes) (p .pending)
+  pub no-links : p .next ≡ replicate 1024 0
+  pub no-deques : p .ends ≡ replicate 256 0
 
--- ---- what the functions over the arrays ask and promise
+-- ---- what the functions over the memory ask and promise
 
 -- the header is accepted, and the tasks below t are read
-pub record Due (bytes : List ℕ) (n t : ℕ) (first second counts : List ℕ) : Type 0 where
+pub record Due (bytes : List ℕ) (n t : ℕ) (p : Parts) : Type 0 where
   pub whole : length bytes ≡ 5 + 3 * n
   pub number : n ≡ task-count bytes
-  pub held : Held bytes t first second counts
+  pub held : Held bytes t p
 
 -- the answer of task t; where it is acceptance, the tasks below t + 1 are read
-pub record TaskRead (bytes : List ℕ) (t : ℕ) (r : PlanAnswer) (first second counts : List ℕ) : Type 0 where
+pub record TaskRead (bytes : List ℕ) (t : ℕ) (r : PlanAnswer) (p : Parts) : Type 0 where
   pub answered : answer-of r ≡ first-no (task-questions bytes t)
-  pub held : answer-of r ≡ accepted → Held bytes (t + 1) first second counts
+  pub held : answer-of r ≡ accepted → Held bytes (t + 1) p
 
 -- the answer of all tasks; where it is acceptance, all n are read
-pub record TasksRead (bytes : List ℕ) (n : ℕ) (r : PlanAnswer) (first second counts : List ℕ) : Type 0 where
+pub record TasksRead (bytes : List ℕ) (n : ℕ) (r : PlanAnswer) (p : Parts) : Type 0 where
   pub answered : answer-of r ≡ first-no (flatMap (task-questions bytes) (below n))
-  pub held : answer-of r ≡ accepted → Held bytes n first second counts
+  pub held : answer-of r ≡ accepted → Held bytes n p
 
--- the tests of questions 9 and 10, over the arrays
+-- the tests of questions 9 and 10, over the parts
 unfoldable pub one-or-two : List ℕ → ℕ → Bool
 one-or-two counts t = leb 1 (getD counts t 0) && leb (getD counts t 0) 2
 
 unfoldable pub followed : List ℕ → ℕ → Bool
 followed first t = not (eqb (getD first t 0) 0)
 
--- ---- reading over arrays
+-- ---- reading into memory of zeros
 
--- the answer is the first "no"; where there is none, the heading and the arrays hold the plan; a refusal leaves zeros in the heading, and
--- the arrays with no meaning: nothing is promised of them
-pub record HeadingRead (bytes : List ℕ) (r : Heading) (first second predecessors : List ℕ) : Type 0 where
+unfoldable pub no-memory : List ℕ
+no-memory = replicate memory-size 0
+
+-- the answer is the first "no"; where there is none, the heading and the memory hold the plan; a refusal leaves zeros in the heading, and
+-- the memory with no meaning: nothing is promised of them
+pub record HeadingRead (bytes : List ℕ) (r : Heading) (memory : List ℕ) : Type 0 where
   pub answered : answer-of (r .answer) ≡ plan-answer bytes
-  pub held : plan-answer bytes ≡ accepted → Holds bytes (plan-with r first second predecessors)
+  pub held : plan-answer bytes ≡ accepted → Holds bytes r memory
   pub no-plan : (number : ℕ) → plan-answer bytes ≡ refused number → r ≡ no-heading (r .answer)

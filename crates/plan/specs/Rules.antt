@@ -3,7 +3,8 @@ use mathlib.Core.Path.{_≡_}
 use mathlib.Core.List.{List, List·Memᴰ}
 use Prim.Native.Nat.{ℕ, _+_, _*_, _≤_, _<_}
 use lib.ListN.{length}
-use Rattle.model.specs.Plan.{Plan, tasks, successors-of, form-field, task-count, count-field, first-field, second-field, plan-of}
+use Rattle.model.specs.Plan.{Graph, Plan, most-tasks, longest-quantum, tasks, successors-of}
+use Rattle.model.specs.Plan.{form-field, task-count, count-field, first-field, second-field, plan-of}
 use Rattle.model.specs.Statements.{SoundPlan}
 
 -- the bytes are those of a plan: long enough, the known form, no byte too few or too many, counts of at most 2, unused fields 0
@@ -22,11 +23,11 @@ pub record PlanRules (bytes : List ℕ) : Type 0 where
 
 -- what the field widths bound
 pub record WithinBounds (plan : Plan) : Type 0 where
-  pub tasks-most : tasks plan ≤ 1024
-  pub quantum-most : plan .quantum-length ≤ 65535
-  pub responsiveness-most : plan .responsiveness ≤ 7
+  pub tasks-most : tasks (plan .graph) ≤ most-tasks
+  pub quantum-most : plan .terms .quantum-length ≤ longest-quantum
+  pub responsiveness-most : plan .terms .responsiveness ≤ 7
 
 -- a path of successors from one task to another
-pub data Leads (plan : Plan) (start : ℕ) : ℕ → Type 0 where
-  nowhere : {t : ℕ} → t ≡ start → Leads plan start t
-  onward : {p t : ℕ} → Leads plan start p → List·Memᴰ t (successors-of plan p) → Leads plan start t
+pub data Leads (graph : Graph) (start : ℕ) : ℕ → Type 0 where
+  nowhere : {t : ℕ} → t ≡ start → Leads graph start t
+  onward : {p t : ℕ} → Leads graph start p → List·Memᴰ t (successors-of graph p) → Leads graph start t

@@ -7,8 +7,10 @@ ghost use lib.ListN.{drop};
 ghost use Rattle.model.specs.Tests.{below, every};
 ghost use Rattle.model.specs.Questions.{first-no, answer-number};
 ghost use Rattle.plan.specs.Answers.{answer-of, passes};
-ghost use Rattle.plan.specs.Contracts.{HeaderOf, five-bytes, TaskOf, three-bytes, field-questions, pair-questions, noted, Due, TaskRead, TasksRead, one-or-two, followed, HeaderRead, HeadingRead};
-ghost use Rattle.plan.specs.Promise.{blank, no-heading, RightReading, RightHeading};
+ghost use Rattle.memory.specs.Parts.{parts, with-pending};
+ghost use Rattle.plan.specs.Contracts.{HeaderOf, five-bytes, TaskOf, three-bytes, field-questions, pair-questions, noted, Due};
+ghost use Rattle.plan.specs.Contracts.{TaskRead, TasksRead, one-or-two, followed, HeaderRead, HeadingRead, no-memory};
+ghost use Rattle.plan.specs.Promise.{no-heading, RightHeading};
 
 // One case for each number of the paper, which answer-of gives.
 pub enum PlanAnswer {
@@ -23,24 +25,6 @@ pub enum PlanAnswer {
     BadSuccessors,
     BadPredecessors,
     LooseEnd,
-}
-
-// A plan. A task's successors stand by field in `first` and `second`, where 0 means unused: no successor is task 0.
-pub struct PlanRecord {
-    pub responsiveness: u8,
-    pub utilization: u8,
-    pub quantum_length: u16,
-    pub tasks: u16,
-    pub first: [u16; 1024],
-    pub second: [u16; 1024],
-    // how many predecessors each task has
-    pub predecessors: [u8; 1024],
-}
-
-// The answer, and the plan where it is Accepted. On a refusal there is no plan: what stands there is the blank.
-pub struct Reading {
-    pub answer: PlanAnswer,
-    pub plan: PlanRecord,
 }
 
 // The answer, and the plan's numbers where it is Accepted; zeros beside a refusal.
@@ -114,7 +98,8 @@ fn header_of(a: u8, b: u8, c: u8, d: u8, e: u8) -> Header
 // Questions 2 to 6.
 fn header_answer(h: Header, size: usize) -> PlanAnswer
     requires { ⌜ h .tasks ≤ 1024 ⌝ }
-    ensures { λ r. ⌜ answer-of r ≡ first-no (field-questions (h .form) (h .responsiveness) (h .utilization) (h .quantum) (h .tasks) size) ⌝ }
+    ensures { λ r. ⌜ answer-of r ≡
+        first-no (field-questions (h .form) (h .responsiveness) (h .utilization) (h .quantum) (h .tasks) size) ⌝ }
 {
     let whole = 5 + 3 * h.tasks;
     if h.form != 1 {
@@ -198,58 +183,48 @@ fn task_answer(f: TaskFields, t: usize, n: usize) -> PlanAnswer
 }
 
 // One more, up to 3; with no branch.
-fn one_more(count: u8) -> u8
+fn one_more(count: u16) -> u16
     ensures { λ r. ⌜ r ≡ cond (ltb count 3) (count + 1) count ⌝ }
 {
-    count + (count < 3) as u8
+    count + (count < 3) as u16
 }
 
 // One predecessor more for the task s, up to 3. An unused field is noted at task 0, which has none.
-fn note(counts: &mut [u8; 1024], s: usize)
+fn note(memory: &mut [u16; 4352], s: usize)
     requires { ⌜ s < 1024 ⌝ }
-    ensures { λ _. ⌜ now (counts .exit) ≡ noted (now (counts .entry)) s ⌝ }
+    ensures { λ _. ⌜ parts (now (memory .exit)) ≡
+        with-pending (parts (now (memory .entry))) (noted (parts (now (memory .entry)) .pending) s) ⌝ }
 {
-    counts[s] = one_more(counts[s]);
+    let at = 3072 + s;
+    memory[at] = one_more(memory[at]);
 }
 
-// Reads the task t of n: its questions, and where they pass its fields into the arrays.
-fn read_task(
-    bytes: &[u8],
-    t: usize,
-    n: usize,
-    first: &mut [u16; 1024],
-    second: &mut [u16; 1024],
-    counts: &mut [u8; 1024],
-) -> PlanAnswer
-    requires { ⌜ t < n ⌝ ∗ ⌜ Due (now bytes) n t (now first) (now second) (now counts) ⌝ }
-    ensures { λ r. ⌜ TaskRead (now (bytes .entry)) t r (now (first .exit)) (now (second .exit)) (now (counts .exit)) ⌝ }
+// Reads the task t of n: its questions, and where they pass its fields into the memory.
+fn read_task(bytes: &[u8], t: usize, n: usize, memory: &mut [u16; 4352]) -> PlanAnswer
+    requires { ⌜ t < n ⌝ ∗ ⌜ Due (now bytes) n t (parts (now memory)) ⌝ }
+    ensures { λ r. ⌜ TaskRead (now (bytes .entry)) t r (parts (now (memory .exit))) ⌝ }
 {
     let at = 5 + 3 * t;
     let f = task_of(bytes[at], bytes[at + 1], bytes[at + 2]);
     let answer = task_answer(f, t, n);
     if passed(answer) {
-        first[t] = f.first as u16;
-        second[t] = f.second as u16;
-        note(counts, f.first);
-        note(counts, f.second);
+        let second_at = 1024 + t;
+        memory[t] = f.first as u16;
+        memory[second_at] = f.second as u16;
+        note(memory, f.first);
+        note(memory, f.second);
     }
     answer
 }
 
-// Reads all n tasks, in rising order, and stops at the first "no". The arrays come with zeros.
-fn read_tasks(
-    bytes: &[u8],
-    n: usize,
-    first: &mut [u16; 1024],
-    second: &mut [u16; 1024],
-    counts: &mut [u8; 1024],
-) -> PlanAnswer
-    requires { ⌜ Due (now bytes) n 0 (now first) (now second) (now counts) ⌝ }
-    ensures { λ r. ⌜ TasksRead (now (bytes .entry)) n r (now (first .exit)) (now (second .exit)) (now (counts .exit)) ⌝ }
+// Reads all n tasks, in rising order, and stops at the first "no". The memory comes with zeros.
+fn read_tasks(bytes: &[u8], n: usize, memory: &mut [u16; 4352]) -> PlanAnswer
+    requires { ⌜ Due (now bytes) n 0 (parts (now memory)) ⌝ }
+    ensures { λ r. ⌜ TasksRead (now (bytes .entry)) n r (parts (now (memory .exit))) ⌝ }
 {
     let mut t = 0;
     while t < n {
-        let answer = read_task(bytes, t, n, first, second, counts);
+        let answer = read_task(bytes, t, n, memory);
         if passed(answer) {
             t += 1;
         } else {
@@ -260,28 +235,29 @@ fn read_tasks(
 }
 
 // Question 9 over the counts: each of the tasks from 1 up has one or two predecessors.
-fn all_preceded(n: usize, counts: &[u8; 1024]) -> bool
+fn all_preceded(n: usize, memory: &[u16; 4352]) -> bool
     requires { ⌜ (1 ≤ n) × (n ≤ 1024) ⌝ }
-    ensures { λ r. ⌜ r ≡ every (one-or-two (now (counts .entry))) (drop 1 (below n)) ⌝ }
+    ensures { λ r. ⌜ r ≡ every (one-or-two (parts (now (memory .entry)) .pending)) (drop 1 (below n)) ⌝ }
 {
     let mut all = true;
     let mut t = 1;
     while t < n {
-        all = all & (counts[t] >= 1) & (counts[t] <= 2);
+        let at = 3072 + t;
+        all = all & (memory[at] >= 1) & (memory[at] <= 2);
         t += 1;
     }
     all
 }
 
 // Question 10 over the first successors: each task but the last has one.
-fn one_exit(n: usize, first: &[u16; 1024]) -> bool
+fn one_exit(n: usize, memory: &[u16; 4352]) -> bool
     requires { ⌜ (1 ≤ n) × (n ≤ 1024) ⌝ }
-    ensures { λ r. ⌜ r ≡ every (followed (now (first .entry))) (below (n - 1)) ⌝ }
+    ensures { λ r. ⌜ r ≡ every (followed (parts (now (memory .entry)) .first)) (below (n - 1)) ⌝ }
 {
     let mut all = true;
     let mut t = 0;
     while t + 1 < n {
-        all = all & (first[t] != 0);
+        all = all & (memory[t] != 0);
         t += 1;
     }
     all
@@ -300,35 +276,26 @@ fn refusal(answer: PlanAnswer) -> Heading
     }
 }
 
-// The tasks and then the graph, after an accepted header.
-fn read_graph(
-    bytes: &[u8],
-    h: Header,
-    first: &mut [u16; 1024],
-    second: &mut [u16; 1024],
-    predecessors: &mut [u8; 1024],
-) -> Heading
-    requires { ⌜ HeaderRead (now bytes) h ⌝ }
-    ensures { λ r. ⌜ HeadingRead (now (bytes .entry)) r (now (first .exit)) (now (second .exit)) (now (predecessors .exit)) ⌝ }
+// The tasks and then the graph, after an accepted header, into memory of zeros.
+fn read_graph(bytes: &[u8], h: Header, memory: &mut [u16; 4352]) -> Heading
+    requires { ⌜ HeaderRead (now bytes) h ⌝ ∗ ⌜ now memory ≡ no-memory ⌝ }
+    ensures { λ r. ⌜ HeadingRead (now (bytes .entry)) r (now (memory .exit)) ⌝ }
 {
     let n = h.tasks;
-    *first = [0u16; 1024];
-    *second = [0u16; 1024];
-    *predecessors = [0u8; 1024];
-    let answer = read_tasks(bytes, n, first, second, predecessors);
+    let answer = read_tasks(bytes, n, memory);
     if !passed(answer) {
         return refusal(answer);
     }
     // what 9 and 10 ask; 9 answers before 10
-    let preceded = all_preceded(n, predecessors);
-    let followed = one_exit(n, first);
+    let preceded = all_preceded(n, memory);
+    let followed = one_exit(n, memory);
     if !preceded {
         return refusal(PlanAnswer::BadPredecessors);
     }
     if !followed {
         return refusal(PlanAnswer::LooseEnd);
     }
-    predecessors[0] = 0;
+    memory[3072] = 0;
     Heading {
         answer: PlanAnswer::Accepted,
         responsiveness: h.responsiveness as u8,
@@ -338,15 +305,10 @@ fn read_graph(
     }
 }
 
-// The plan of any bytes, its graph over whatever the arrays had, or the number of the first "no". On a refusal the arrays have no meaning:
-// the caller lends arrays of its own and does not hand them on.
-fn read_over(
-    bytes: &[u8],
-    first: &mut [u16; 1024],
-    second: &mut [u16; 1024],
-    predecessors: &mut [u8; 1024],
-) -> Heading
-    ensures { λ r. ⌜ HeadingRead (now (bytes .entry)) r (now (first .exit)) (now (second .exit)) (now (predecessors .exit)) ⌝ }
+// The plan of any bytes, its graph into lent memory and zeros into the rest of it, or the number of the first "no". Refused, the memory
+// stays as it came.
+pub fn read_into(bytes: &[u8], memory: &mut [u16; 4352]) -> Heading
+    ensures { λ r. ⌜ RightHeading (now (bytes .entry)) r (now (memory .entry)) (now (memory .exit)) ⌝ }
 {
     if bytes.len() < 5 {
         return refusal(PlanAnswer::Short);
@@ -356,73 +318,12 @@ fn read_over(
     if !passed(answer) {
         return refusal(answer);
     }
-    read_graph(bytes, h, first, second, predecessors)
-}
-
-// The plan of any bytes, its graph into lent arrays, or the number of the first "no". Refused, the arrays stay as they came.
-pub fn read_into(
-    bytes: &[u8],
-    first: &mut [u16; 1024],
-    second: &mut [u16; 1024],
-    predecessors: &mut [u8; 1024],
-) -> Heading
-    ensures { λ r. ⌜ RightHeading (now (bytes .entry)) r (now (first .entry)) (now (second .entry)) (now (predecessors .entry))
-        (now (first .exit)) (now (second .exit)) (now (predecessors .exit)) ⌝ }
-{
-    let mut its_first = [0u16; 1024];
-    let mut its_second = [0u16; 1024];
-    let mut its_counts = [0u8; 1024];
-    let heading = read_over(bytes, &mut its_first, &mut its_second, &mut its_counts);
+    let mut graph = [0u16; 4352];
+    let heading = read_graph(bytes, h, &mut graph);
     let answer = heading.answer;
     if !passed(answer) {
         return heading;
     }
-    *first = its_first;
-    *second = its_second;
-    *predecessors = its_counts;
+    *memory = graph;
     heading
-}
-
-// No plan: the blank stands beside the answer.
-fn no_reading(answer: PlanAnswer) -> Reading
-    ensures { λ r. ⌜ (r .answer ≡ answer) × (r .plan ≡ blank) ⌝ }
-{
-    Reading {
-        answer,
-        plan: PlanRecord {
-            responsiveness: 0,
-            utilization: 0,
-            quantum_length: 0,
-            tasks: 0,
-            first: [0u16; 1024],
-            second: [0u16; 1024],
-            predecessors: [0u8; 1024],
-        },
-    }
-}
-
-// The plan of any bytes by value, or the number of the first "no".
-pub fn read(bytes: &[u8]) -> Reading
-    ensures { λ r. ⌜ RightReading (now (bytes .entry)) r ⌝ }
-{
-    let mut first = [0u16; 1024];
-    let mut second = [0u16; 1024];
-    let mut predecessors = [0u8; 1024];
-    let heading = read_over(bytes, &mut first, &mut second, &mut predecessors);
-    let answer = heading.answer;
-    if !passed(answer) {
-        return no_reading(answer);
-    }
-    Reading {
-        answer,
-        plan: PlanRecord {
-            responsiveness: heading.responsiveness,
-            utilization: heading.utilization,
-            quantum_length: heading.quantum_length,
-            tasks: heading.tasks,
-            first,
-            second,
-            predecessors,
-        },
-    }
 }

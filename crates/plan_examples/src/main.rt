@@ -27,36 +27,34 @@ fn put_after(mark: &[u8], n: u16) {
     put(n);
 }
 
-fn show_task(first: u16, second: u16, predecessors: u8) {
+fn show_task(first: u16, second: u16, predecessors: u16) {
     put_after(b" | ", first);
     put_after(b" ", second);
-    put_after(b" ", predecessors as u16);
+    put_after(b" ", predecessors);
 }
 
-fn show_tasks(plan: plan::PlanRecord) {
-    let first = plan.first;
-    let second = plan.second;
-    let predecessors = plan.predecessors;
-    show_task(first[0], second[0], predecessors[0]);
-    if plan.tasks > 3 {
-        show_task(first[1], second[1], predecessors[1]);
-        show_task(first[2], second[2], predecessors[2]);
-        show_task(first[3], second[3], predecessors[3]);
+fn show_tasks(memory: &[u16; 4352], tasks: u16) {
+    show_task(memory[0], memory[1024], memory[3072]);
+    if tasks > 3 {
+        show_task(memory[1], memory[1025], memory[3073]);
+        show_task(memory[2], memory[1026], memory[3074]);
+        show_task(memory[3], memory[1027], memory[3075]);
     }
 }
 
 fn show(name: &[u8], bytes: &[u8]) {
     io::write_all(1, name);
-    let reading = plan::read(bytes);
-    let answer = reading.answer;
-    let plan = reading.plan;
+    // what it had before is not seen
+    let mut memory = [9u16; 4352];
+    let heading = plan::read_into(bytes, &mut memory);
+    let answer = heading.answer;
     put_after(b": ", plan::number(answer) as u16);
     if plan::passed(answer) {
-        put_after(b" R ", plan.responsiveness as u16);
-        put_after(b" D ", plan.utilization as u16);
-        put_after(b" L ", plan.quantum_length);
-        put_after(b" N ", plan.tasks);
-        show_tasks(plan);
+        put_after(b" R ", heading.responsiveness as u16);
+        put_after(b" D ", heading.utilization as u16);
+        put_after(b" L ", heading.quantum_length);
+        put_after(b" N ", heading.tasks);
+        show_tasks(&memory, heading.tasks);
     }
     io::write_all(1, b"\n");
 }

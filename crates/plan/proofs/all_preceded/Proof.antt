@@ -4,23 +4,33 @@ use Prim.Native.Nat.{_≤_, _-_}
 use native.Mathlib.Omega.{arith}
 use lib.ListN.{drop}
 use Rattle.model.specs.Tests.{below, every}
+use Rattle.memory.specs.Parts.{parts}
 use Rattle.plan.specs.Contracts.{one-or-two}
-use Rattle.plan.proofs.Arrays.{more-preceded}
+use Rattle.plan.proofs.Stores.{more-preceded}
 use Rattle.plan.proofs.all_preceded.Statement.{statement}
 use Rattle.plan.proofs.all_preceded.Tie as tie
 
 abbrev Inv-loop : tie.InvT-loop
-Inv-loop n counts all₀ t₀ all t = (1 ≤ t) × (t ≤ n) × (all ≡ every (one-or-two counts) (drop 1 (below t)))
+Inv-loop n memory all₀ t₀ all t = (1 ≤ t) × (t ≤ n) × (all ≡ every (one-or-two (parts memory .pending)) (drop 1 (below t)))
 
 abbrev μ-loop : tie.MeasureT-loop
-μ-loop n counts all₀ t₀ all t = n - t
+μ-loop n memory all₀ t₀ all t = n - t
 
 loop-holds : tie.Need-loop-holds Inv-loop μ-loop
 unfolding below every
 loop-holds c = (omega arith, omega arith, refl)
 
+add-at : tie.Need-add-at Inv-loop μ-loop
+add-at c = omega arith
+
+mul-all : tie.Need-mul-all Inv-loop μ-loop
+mul-all c = omega arith
+
 element-copy-out-all : tie.Need-element-copy-out-all Inv-loop μ-loop
 element-copy-out-all c = omega arith
+
+mul-all-2 : tie.Need-mul-all-2 Inv-loop μ-loop
+mul-all-2 c = omega arith
 
 element-copy-out-all-2 : tie.Need-element-copy-out-all-2 Inv-loop μ-loop
 element-copy-out-all-2 c = omega arith
@@ -34,7 +44,7 @@ loop-less c = omega arith
 loop-again : tie.Need-loop-again Inv-loop μ-loop
 loop-again c =
     let head = c .before .before .before .loop in
-    (omega arith, omega arith, more-preceded _ (head .t) (head .all) (head .inv .0) (head .inv .2))
+    (omega arith, omega arith, more-preceded _ (head .t) (head .all) (head .inv .0) (omega arith) (head .inv .2))
 
 returns : tie.Need-returns Inv-loop μ-loop
 returns c =
@@ -48,7 +58,10 @@ all-preceded-spec =
     Inv-loop
     μ-loop
     loop-holds
+    add-at
+    mul-all
     element-copy-out-all
+    mul-all-2
     element-copy-out-all-2
     add-t
     loop-less

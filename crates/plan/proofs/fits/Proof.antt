@@ -18,7 +18,8 @@ returns : tie.Need-returns
 returns c =
     let called = c .before .before .before .before .before in
     let given = called .before .args in
-    fits-asked (given .n) (given .t) (given .f .first) (given .f .count) (given .f .second) (called .last-used .result) (called .last-used .ensures)
+    fits-asked (given .n) (given .t) (given .f .first) (given .f .count) (given .f .second)
+    (called .last-used .result) (called .last-used .ensures)
 
 pub fits-spec : {M : Type 1} → statement M
 fits-spec = tie.close (tie.spec last-used-requires cast-result sub-result returns)

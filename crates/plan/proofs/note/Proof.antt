@@ -1,8 +1,14 @@
 -- `plan::note` meets its contract.
 use borrow.Author.Needs.{needs}
-use Rattle.plan.proofs.Arrays.{noted-plainly}
+use Rattle.plan.proofs.Stores.{noted-stored}
 use Rattle.plan.proofs.note.Statement.{statement}
 use Rattle.plan.proofs.note.Tie as tie
+
+add-at : tie.Need-add-at
+add-at c = search needs
+
+mul-one-more : tie.Need-mul-one-more
+mul-one-more c = search needs
 
 element-copy-out-one-more : tie.Need-element-copy-out-one-more
 element-copy-out-one-more c = search needs
@@ -10,12 +16,23 @@ element-copy-out-one-more c = search needs
 one-more-requires : tie.Need-one-more-requires
 one-more-requires c κs = search needs
 
-element-write-counts : tie.Need-element-write-counts
-element-write-counts c = search needs
+mul-memory : tie.Need-mul-memory
+mul-memory c = search needs
+
+element-write-memory : tie.Need-element-write-memory
+element-write-memory c = search needs
 
 returns : tie.Need-returns
-returns c = noted-plainly _ _ _ (c .one-more .ensures)
+returns c = noted-stored _ _ _ (c .before .before .pre) (c .one-more .ensures)
 
 pub note-spec : {M : Type 1} → statement M
 note-spec =
-    tie.close (tie.spec element-copy-out-one-more one-more-requires element-write-counts returns)
+    tie.close
+    (tie.spec
+    add-at
+    mul-one-more
+    element-copy-out-one-more
+    one-more-requires
+    mul-memory
+    element-write-memory
+    returns)

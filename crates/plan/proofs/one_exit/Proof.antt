@@ -3,16 +3,17 @@ use mathlib.Core.Path.{_≡_, refl}
 use Prim.Native.Nat.{_+_, _≤_, _-_}
 use native.Mathlib.Omega.{arith}
 use Rattle.model.specs.Tests.{below, every}
+use Rattle.memory.specs.Parts.{parts}
 use Rattle.plan.specs.Contracts.{followed}
-use Rattle.plan.proofs.Arrays.{more-followed}
+use Rattle.plan.proofs.Stores.{more-followed}
 use Rattle.plan.proofs.one_exit.Statement.{statement}
 use Rattle.plan.proofs.one_exit.Tie as tie
 
 abbrev Inv-loop : tie.InvT-loop
-Inv-loop n first all₀ t₀ all t = (t + 1 ≤ n) × (all ≡ every (followed first) (below t))
+Inv-loop n memory all₀ t₀ all t = (t + 1 ≤ n) × (all ≡ every (followed (parts memory .first)) (below t))
 
 abbrev μ-loop : tie.MeasureT-loop
-μ-loop n first all₀ t₀ all t = n - t
+μ-loop n memory all₀ t₀ all t = n - t
 
 loop-holds : tie.Need-loop-holds Inv-loop μ-loop
 unfolding below every
@@ -36,7 +37,7 @@ loop-less c = omega arith
 loop-again : tie.Need-loop-again Inv-loop μ-loop
 loop-again c =
     let head = c .before .before .loop in
-    (omega arith, more-followed _ (head .t) (head .all) (head .inv .1))
+    (omega arith, more-followed _ (head .t) (head .all) (omega arith) (head .inv .1))
 
 returns : tie.Need-returns Inv-loop μ-loop
 returns c =

@@ -2,7 +2,7 @@
 use borrow.Author.Needs.{needs}
 use native.Mathlib.Omega.{arith}
 use lib.Dec.{ltb}
-use Rattle.plan.proofs.Arrays.{added, added-fits}
+use Rattle.plan.proofs.Stores.{added, added-fits}
 use Rattle.plan.proofs.one_more.Statement.{statement}
 use Rattle.plan.proofs.one_more.Tie as tie
 
@@ -10,7 +10,7 @@ cast-result : tie.Need-cast-result
 cast-result c = search needs
 
 add-result : tie.Need-add-result
-add-result c = record { fits = added-fits _ (omega arith) }
+add-result c = record { fits = added-fits _ _ (omega arith) (omega arith) }
 
 returns : tie.Need-returns
 returns c = added (ltb (c .args .count) 3) (c .args .count)

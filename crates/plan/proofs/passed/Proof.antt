@@ -7,7 +7,8 @@ use Prim.Native.Nat.{ℕ}
 use denote.Enum.Declared.{tagOf}
 use types.Run.{OneOf, miss}
 use Rattle.plan.specs.declared.PlanAnswer.{PlanAnswer}
-use Rattle.plan.specs.declared.PlanAnswer.the-variants.{Accepted, Short, UnknownForm, LowResponsiveness, BadUtilization, NoQuantum, WrongLength, BadFields, BadSuccessors, BadPredecessors, LooseEnd}
+use Rattle.plan.specs.declared.PlanAnswer.the-variants.{Accepted, Short, UnknownForm, LowResponsiveness, BadUtilization, NoQuantum}
+use Rattle.plan.specs.declared.PlanAnswer.the-variants.{WrongLength, BadFields, BadSuccessors, BadPredecessors, LooseEnd}
 use Rattle.plan.specs.Answers.{answer-of, passes}
 use Rattle.plan.proofs.PlanAnswer.{the-type}
 use Rattle.plan.proofs.passed.Statement.{statement}

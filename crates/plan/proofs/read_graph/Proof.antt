@@ -10,13 +10,13 @@ use Rattle.plan.proofs.read_graph.Tie as tie
 
 -- the function's entry, and what the tests of the answer, of 9 and of 10 say
 abbrev start : tie.After-passed → tie.Start
-start p = p .before .before .before .before .before .before .before .before .before
+start p = p .before .before .before .before
 
 holds-8 : (c : tie.Else1) → passes (answer-of (c .before .before .read-tasks .result)) ≡ true
 holds-8 c = sym (c .before .passed .ensures) ∙ not-false _ (c .if1 .left)
 
 read-tasks-requires : tie.Need-read-tasks-requires
-read-tasks-requires c κs = first-due _ _ (c .before .before .before .before .before .before .before .pre) _ _ _ refl refl refl
+read-tasks-requires c κs = let s = c .before .before in first-due _ _ (s .pre .0) _ (s .pre .1)
 
 passed-requires : tie.Need-passed-requires
 passed-requires c κs = search needs
@@ -28,7 +28,7 @@ returns : tie.Need-returns
 returns c =
     let p = c .before .before in
     let fails = sym (p .passed .ensures) ∙ not-true _ (c .before .if1 .taken) in
-    right-refusal _ _ _ _ _ _ (tasks-refused _ _ (start p .pre) _ _ _ _ (p .before .read-tasks .ensures) fails) fails (c .refusal .ensures)
+    right-refusal _ _ _ _ (tasks-refused _ _ (start p .pre .0) _ _ (p .before .read-tasks .ensures) fails) fails (c .refusal .ensures)
 
 all-preceded-requires : tie.Need-all-preceded-requires
 all-preceded-requires c κs = search needs
@@ -45,8 +45,8 @@ returns-2 c =
     let a = o .before .before in
     let e = a .before .before in
     let p = e .before in
-    right-refusal _ _ _ _ _ _
-    (refused-9 _ _ (start p .pre) _ _ _ _ (p .before .read-tasks .ensures) (holds-8 e)
+    right-refusal _ _ _ _
+    (refused-9 _ _ (start p .pre .0) _ _ (p .before .read-tasks .ensures) (holds-8 e)
     (sym (a .all-preceded .ensures) ∙ not-true _ (c .before .if2 .taken)))
     refl (c .refusal2 .ensures)
 
@@ -60,26 +60,26 @@ returns-3 c =
     let a = o .before .before in
     let e = a .before .before in
     let p = e .before in
-    right-refusal _ _ _ _ _ _
-    (refused-10 _ _ (start p .pre) _ _ _ _ (p .before .read-tasks .ensures) (holds-8 e)
+    right-refusal _ _ _ _
+    (refused-10 _ _ (start p .pre .0) _ _ (p .before .read-tasks .ensures) (holds-8 e)
     (sym (a .all-preceded .ensures) ∙ not-false _ (n .if2 .left))
     (sym (o .one-exit .ensures) ∙ not-true _ (c .before .if3 .taken)))
     refl (c .refusal3 .ensures)
 
-element-write-predecessors : tie.Need-element-write-predecessors
-element-write-predecessors c = search needs
+element-write-memory : tie.Need-element-write-memory
+element-write-memory c = search needs
 
-cast-t22 : tie.Need-cast-t22
-cast-t22 c = search needs
+cast-t18 : tie.Need-cast-t18
+cast-t18 c = search needs
 
-cast-t23 : tie.Need-cast-t23
-cast-t23 c = search needs
+cast-t19 : tie.Need-cast-t19
+cast-t19 c = search needs
 
-cast-t24 : tie.Need-cast-t24
-cast-t24 c = search needs
+cast-t20 : tie.Need-cast-t20
+cast-t20 c = search needs
 
-cast-t25 : tie.Need-cast-t25
-cast-t25 c = search needs
+cast-t21 : tie.Need-cast-t21
+cast-t21 c = search needs
 
 returns-4 : tie.Need-returns-4
 returns-4 c =
@@ -89,7 +89,7 @@ returns-4 c =
     let a = o .before .before in
     let e = a .before .before in
     let p = e .before in
-    accepted-whole _ _ (start p .pre) _ _ _ _ (p .before .read-tasks .ensures) (holds-8 e)
+    accepted-whole _ _ (start p .pre .0) _ _ (p .before .read-tasks .ensures) (holds-8 e)
     (sym (a .all-preceded .ensures) ∙ not-false _ (n .if2 .left))
     (sym (o .one-exit .ensures) ∙ not-false _ (t .if3 .left))
     _ refl refl refl refl refl
@@ -108,9 +108,9 @@ read-graph-spec =
     returns-2
     refusal-requires-3
     returns-3
-    element-write-predecessors
-    cast-t22
-    cast-t23
-    cast-t24
-    cast-t25
+    element-write-memory
+    cast-t18
+    cast-t19
+    cast-t20
+    cast-t21
     returns-4)

@@ -6,14 +6,17 @@ use native.Mathlib.Omega.{arith}
 use mathlib.Core.Bool.{true}
 use Rattle.plan.specs.Answers.{answer-of, passes}
 use Rattle.plan.proofs.Steps.{read-refused, read-passed, first-small, second-small}
+use Rattle.plan.proofs.Stores.{fields-stored}
 use Rattle.plan.proofs.read_task.Statement.{statement}
 use Rattle.plan.proofs.read_task.Tie as tie
 
 -- the function's entry, from where the answer was tested
 abbrev start : tie.After-passed → tie.Start
-start p = p .before .before .before .before .before .before .before
+start p =
+    let read = p .before .before in
+    read .before .before .before .before .before
 
--- the fields of an accepted task are places of the arrays
+-- the fields of an accepted task are tasks
 small : (p : tie.After-passed) → passes (answer-of (p .before .task-answer .result)) ≡ true →
     (p .before .before .task-of .result .first < 1024) × (p .before .before .task-of .result .second < 1024)
 small p passed =
@@ -54,23 +57,26 @@ task-answer-requires c κs = search needs
 passed-requires : tie.Need-passed-requires
 passed-requires c κs = search needs
 
-cast-first : tie.Need-cast-first
-cast-first c = search needs
+add-second-at : tie.Need-add-second-at
+add-second-at c = search needs
 
-mul-first : tie.Need-mul-first
-mul-first c = search needs
+cast-memory : tie.Need-cast-memory
+cast-memory c = search needs
 
-element-write-first : tie.Need-element-write-first
-element-write-first c = search needs
+mul-memory : tie.Need-mul-memory
+mul-memory c = search needs
 
-cast-second : tie.Need-cast-second
-cast-second c = search needs
+element-write-memory : tie.Need-element-write-memory
+element-write-memory c = search needs
 
-mul-second : tie.Need-mul-second
-mul-second c = search needs
+cast-memory-2 : tie.Need-cast-memory-2
+cast-memory-2 c = search needs
 
-element-write-second : tie.Need-element-write-second
-element-write-second c = search needs
+mul-memory-2 : tie.Need-mul-memory-2
+mul-memory-2 c = search needs
+
+element-write-memory-2 : tie.Need-element-write-memory-2
+element-write-memory-2 c = search needs
 
 note-requires : tie.Need-note-requires
 note-requires c κs =
@@ -79,22 +85,26 @@ note-requires c κs =
 
 note-requires-2 : tie.Need-note-requires-2
 note-requires-2 c κs =
-    let p = c .before .before .before .before .before .before in
-    omega (arith, small p (sym (p .passed .ensures) ∙ c .before .before .before .before .before .if1 .taken))
+    let accepted = c .before .before .before .before .before in
+    let p = accepted .before in
+    omega (arith, small p (sym (p .passed .ensures) ∙ accepted .if1 .taken))
 
 returns : tie.Need-returns
 returns c =
-    let p = c .before .before .before .before .before .before .before in
+    let noted = c .before .before in
+    let accepted = noted .before .before .before .before in
+    let p = accepted .before in
     let s = start p in
-    read-passed _ _ _ _ (s .pre .1 .number) (p .before .before .task-of .ensures) (p .before .task-answer .result) (p .before .task-answer .ensures)
-    (sym (p .passed .ensures) ∙ c .before .before .before .before .before .before .if1 .taken)
-    _ _ _ _ _ (s .pre .0) (s .pre .1 .held) (c .before .before .note .ensures) (c .note2 .ensures)
+    let a = p .before .task-answer in
+    read-passed _ _ _ _ (s .pre .1 .number) (p .before .before .task-of .ensures) (a .result) (a .ensures)
+    (sym (p .passed .ensures) ∙ accepted .if1 .taken)
+    _ _ _ _ (s .pre .0) (s .pre .1 .held) (fields-stored _ _ _ _ (omega arith)) (noted .note .ensures) (c .note2 .ensures)
 
 returns-2 : tie.Need-returns-2
 returns-2 c =
     let p = c .before in
-    let s = start p in
-    read-refused _ _ _ _ (s .pre .1 .number) (p .before .before .task-of .ensures) (p .before .task-answer .result) (p .before .task-answer .ensures) _ _ _
+    let a = p .before .task-answer in
+    read-refused _ _ _ _ (start p .pre .1 .number) (p .before .before .task-of .ensures) (a .result) (a .ensures) _
     (sym (p .passed .ensures) ∙ c .if1 .left)
 
 pub read-task-spec : {M : Type 1} → statement M
@@ -111,12 +121,13 @@ read-task-spec =
     task-of-requires
     task-answer-requires
     passed-requires
-    cast-first
-    mul-first
-    element-write-first
-    cast-second
-    mul-second
-    element-write-second
+    add-second-at
+    cast-memory
+    mul-memory
+    element-write-memory
+    cast-memory-2
+    mul-memory-2
+    element-write-memory-2
     note-requires
     note-requires-2
     returns

@@ -3,6 +3,7 @@ use Prim.Native.Nat.{_≤_, _-_}
 use mathlib.Core.Path.{sym, _∙_}
 use native.Mathlib.Omega.{arith}
 use borrow.Author.Needs.{needs}
+use Rattle.memory.specs.Parts.{parts}
 use Rattle.plan.specs.Contracts.{Due}
 use Rattle.plan.proofs.Asked.{passes-is}
 use Rattle.plan.proofs.Steps.{tasks-refused, tasks-all}
@@ -10,16 +11,20 @@ use Rattle.plan.proofs.read_tasks.Statement.{statement}
 use Rattle.plan.proofs.read_tasks.Tie as tie
 
 abbrev Inv-loop : tie.InvT-loop
-Inv-loop bytes n first₀ second₀ counts₀ t₀ first second counts t = (t ≤ n) × Due bytes n t first second counts
+Inv-loop bytes n memory₀ t₀ memory t = (t ≤ n) × Due bytes n t (parts memory)
 
 abbrev μ-loop : tie.MeasureT-loop
-μ-loop bytes n first₀ second₀ counts₀ t₀ first second counts t = n - t
+μ-loop bytes n memory₀ t₀ memory t = n - t
+
+-- the loop's head, from where the answer was tested
+abbrev head : tie.After-passed Inv-loop μ-loop → tie.At-loop Inv-loop μ-loop
+head p = p .before .before .before .before
 
 loop-holds : tie.Need-loop-holds Inv-loop μ-loop
 loop-holds c = (omega arith, c .before .pre)
 
 read-task-requires : tie.Need-read-task-requires Inv-loop μ-loop
-read-task-requires c κs = (search needs, c .before .before .before .before .loop .inv .1)
+read-task-requires c κs = (search needs, c .before .before .loop .inv .1)
 
 passed-requires : tie.Need-passed-requires Inv-loop μ-loop
 passed-requires c κs = search needs
@@ -32,7 +37,7 @@ loop-less c = omega arith
 
 loop-again : tie.Need-loop-again Inv-loop μ-loop
 loop-again c =
-    let inv = c .before .before .before .before .before .before .before .loop .inv in (
+    let inv = head (c .before) .loop .inv in (
       omega arith,
       record {
         whole = inv .1 .whole;
@@ -43,11 +48,11 @@ loop-again c =
 
 returns : tie.Need-returns Inv-loop μ-loop
 returns c =
-    tasks-refused _ _ _ _ _ _ (c .before .before .before .before .before .before .before .loop .inv .1 .held) _ _ _ _ (omega arith)
+    tasks-refused _ _ _ _ (head (c .before) .loop .inv .1 .held) _ _ (omega arith)
     (c .before .before .read-task .ensures) (sym (c .before .passed .ensures) ∙ c .if1 .left)
 
 returns-2 : tie.Need-returns-2 Inv-loop μ-loop
-returns-2 c = tasks-all _ _ _ _ _ _ (c .before .loop .inv .1 .held) (omega arith)
+returns-2 c = tasks-all _ _ _ _ (c .before .loop .inv .1 .held) (omega arith)
 
 pub read-tasks-spec : {M : Type 1} → statement M
 read-tasks-spec =

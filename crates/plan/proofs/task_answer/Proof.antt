@@ -24,7 +24,8 @@ returns-4 c = no-7-second _ _ _ _ _ (omega arith) (c .if4 .taken)
 
 returns-5 : tie.Need-returns-5
 returns-5 c =
-    let unfit = c .before .before .before .before .before .before .before .before in
+    let not-two = c .before .before .before .before in
+    let unfit = not-two .before .before .before .before in
     one-unfit _ _ _ _ _ _ (unfit .before .fits2 .ensures) (unfit .if1 .left) (omega arith) (omega arith)
 
 returns-6 : tie.Need-returns-6

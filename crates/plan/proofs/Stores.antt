@@ -1,10 +1,10 @@
--- The arrays while the tasks are read: what storing one task's fields and noting its successors does.
+-- The memory's parts while the tasks are read: what storing one task's fields and noting its successors does.
 use mathlib.Core.Path.{_≡_, refl, sym, _∙_, ap}
 use mathlib.Core.Bool.{Bool, true, false, cond, not, _&&_, and-assoc}
-use mathlib.Core.Logic.{_⊎_, ⊎-elim}
+use mathlib.Core.Logic.{⊎-elim}
 use mathlib.Core.List.{List, List·Memᴰ·head, List·Memᴰ·tail}
 use Prim.Native.Nat.{ℕ, zero, suc, _+_, _≤_, _<_}
-use native.Mathlib.Nat.{add-zero}
+use native.Mathlib.Nat.{add-zero, zero-add, eq-or-lt-of-le, le-of-suc-le-suc}
 use native.Mathlib.Numerals.{add-one}
 use native.Mathlib.Omega.{arith}
 use borrow.Author.Tests.{le-ltb, eqb-true, eqb-false, ltb-true}
@@ -14,16 +14,44 @@ use lib.Seq.{getD-set-same, getD-set-other, set-getD}
 use mir.Val.{boolByte}
 use Rattle.model.specs.Tests.{below, every, member}
 use Rattle.model.specs.Plan.{used-fields}
-use Rattle.plan.specs.View.{Ends}
+use Rattle.memory.specs.Parts.{Parts, region, parts, with-pending}
+use Rattle.memory.proofs.Regions.{store-inside, store-above, store-below, store-pending, first-at, pending-at}
+use Rattle.plan.specs.Headings.{Ends}
 use Rattle.plan.specs.Contracts.{saturated, noted, one-or-two, followed}
-use Rattle.plan.proofs.Lists.{last-or-below, every-below, every-from-one}
+use Rattle.lists.proofs.Ranges.{every-below, every-from-one}
 use Rattle.plan.proofs.Facts.{FieldFacts, TargetFacts}
+
+-- ---- the two fields of the task t stored
+
+abbrev pub with-fields : Parts → ℕ → ℕ → ℕ → Parts
+with-fields p t first second =
+    record { first = set (p .first) t first; second = set (p .second) t second; next = p .next; pending = p .pending; ends = p .ends }
+
+pub fields-stored : (memory : List ℕ) (t first second : ℕ) → t < 1024 →
+    parts (set (set memory t first) (1024 + t) second) ≡ with-fields (parts memory) t first second
+unfolding parts
+fields-stored memory t first second inside =
+    let first-store : region 0 1024 (set memory t first) ≡ set (region 0 1024 memory) t first =
+    ap (λ i. region 0 1024 (set memory i first)) (sym (zero-add t)) ∙ store-inside 0 1024 memory t first inside in
+    let below-it = set memory t first in
+    rw (
+      store-above 0 1024 below-it (1024 + t) second (omega arith),
+      store-inside 1024 1024 below-it t second inside,
+      store-below 2048 1024 below-it (1024 + t) second (omega arith),
+      store-below 3072 1024 below-it (1024 + t) second (omega arith),
+      store-below 4096 256 below-it (1024 + t) second (omega arith),
+      first-store,
+      store-below 1024 1024 memory t first (omega arith),
+      store-below 2048 1024 memory t first (omega arith),
+      store-below 3072 1024 memory t first (omega arith),
+      store-below 4096 256 memory t first (omega arith),
+    )
 
 -- ---- a field stored at t
 
 module _ (f : ℕ → ℕ) (xs : List ℕ) (t : ℕ) (ends : Ends t xs) (small : t < 1024) where
   pub stored-held : ((u : ℕ) → u < t → getD xs u 0 ≡ f u) → (u : ℕ) → u < suc t → getD (set xs t (f t)) u 0 ≡ f u
-  stored-held h u l = ⊎-elim at before (last-or-below u t l)
+  stored-held h u l = ⊎-elim at before (eq-or-lt-of-le (le-of-suc-le-suc l))
     where
       at : u ≡ t → getD (set xs t (f t)) u 0 ≡ f u
       at e = rw e (getD-set-same xs t (f t) 0 (omega (arith, ends .places)))
@@ -56,23 +84,14 @@ pub added : (b : Bool) (count : ℕ) → count + boolByte b ≡ cond b (count + 
 added true count = refl
 added false count = add-zero count
 
-pub added-fits : (count : ℕ) → count < 256 → count + boolByte (ltb count 3) < 256
-added-fits count l = by (ltb count 3) refl
+pub added-fits : (count most : ℕ) → count < 65536 → most < 65536 → count + boolByte (ltb count most) < 65536
+added-fits count most l few = by (ltb count most) refl
   where
-    by : (b : Bool) → ltb count 3 ≡ b → count + boolByte b < 256
-    by true e = omega (arith, ltb-true count 3 e)
+    by : (b : Bool) → ltb count most ≡ b → count + boolByte b < 65536
+    by true e = omega (arith, ltb-true count most e)
     by false e = omega arith
 
 module _ (counts : List ℕ) (s : ℕ) where
-  -- the count is written where nothing is noted too
-  pub noted-plainly : (count : ℕ) → count ≡ cond (ltb (getD counts s 0) 3) (getD counts s 0 + 1) (getD counts s 0) → set counts s count ≡ noted counts s
-  unfolding noted
-  noted-plainly count e = rw e (by (ltb (getD counts s 0) 3))
-    where
-      by : (b : Bool) → set counts s (cond b (getD counts s 0 + 1) (getD counts s 0)) ≡ cond b (set counts s (getD counts s 0 + 1)) counts
-      by true = refl
-      by false = set-getD counts s 0
-
   noted-same : s < length counts → getD (noted counts s) s 0 ≡ next (getD counts s 0)
   unfolding noted next
   noted-same l = by (ltb (getD counts s 0) 3)
@@ -96,6 +115,22 @@ module _ (counts : List ℕ) (s : ℕ) where
       by : (b : Bool) → length (cond b (set counts s (getD counts s 0 + 1)) counts) ≡ length counts
       by true = length-set counts s _
       by false = refl
+
+-- the count is written where nothing is noted too
+pub noted-stored : (memory : List ℕ) (s count : ℕ) → s < 1024 →
+    count ≡ cond (ltb (getD memory (3072 + s) 0) 3) (getD memory (3072 + s) 0 + 1) (getD memory (3072 + s) 0) →
+    parts (set memory (3072 + s) count) ≡ with-pending (parts memory) (noted (parts memory .pending) s)
+unfolding noted
+noted-stored memory s count inside e =
+    store-pending memory s count inside
+    ∙ ap (with-pending (parts memory)) (rw (e, pending-at memory s inside) (by (ltb (getD counts s 0) 3)))
+  where
+    counts : List ℕ
+    counts = parts memory .pending
+
+    by : (b : Bool) → set counts s (cond b (getD counts s 0 + 1) (getD counts s 0)) ≡ cond b (set counts s (getD counts s 0 + 1)) counts
+    by true = refl
+    by false = set-getD counts s 0
 
 pub noted-ends : (n : ℕ) (counts : List ℕ) (s : ℕ) → s < n → Ends n counts → Ends n (noted counts s)
 noted-ends n counts s l ends =
@@ -124,7 +159,8 @@ as-test true = refl
 as-test false = refl
 
 -- two different successors are never the same task
-either : (o u a b : ℕ) → (a ≡ b → ⊥) → o + cond (eqb u a) 1 0 + cond (eqb u b) 1 0 ≡ o + cond (cond (eqb u a) true (cond (eqb u b) true false)) 1 0
+either : (o u a b : ℕ) → (a ≡ b → ⊥) →
+    o + cond (eqb u a) 1 0 + cond (eqb u b) 1 0 ≡ o + cond (cond (eqb u a) true (cond (eqb u b) true false)) 1 0
 either o u a b ne = by (eqb u a) (eqb u b) refl refl
   where
     by : (p q : Bool) → eqb u a ≡ p → eqb u b ≡ q → o + cond p 1 0 + cond q 1 0 ≡ o + cond (cond p true (cond q true false)) 1 0
@@ -135,8 +171,9 @@ either o u a b ne = by (eqb u a) (eqb u b) refl refl
 
 -- the successors of a task that 7 and 8 pass: each count is one more where the task is among them
 pub note-successors : (old : ℕ → ℕ) (counts : List ℕ) (n t count first second : ℕ) → length counts ≡ 1024 → n ≤ 1024 →
-    FieldFacts count first second → TargetFacts n t (used-fields count first second) → ((u : ℕ) → 1 ≤ u → getD counts u 0 ≡ saturated (old u)) →
-    (u : ℕ) → 1 ≤ u → getD (noted (noted counts first) second) u 0 ≡ saturated (old u + cond (member u (used-fields count first second)) 1 0)
+    FieldFacts count first second → TargetFacts n t (used-fields count first second) →
+    ((u : ℕ) → 1 ≤ u → getD counts u 0 ≡ saturated (old u)) → (u : ℕ) → 1 ≤ u →
+    getD (noted (noted counts first) second) u 0 ≡ saturated (old u + cond (member u (used-fields count first second)) 1 0)
 unfolding member
 note-successors old counts n t zero first second size small f g h u m =
     noted-unused (noted counts first) second u (f .second-unused (omega arith)) m
@@ -157,16 +194,21 @@ note-successors old counts n t (suc (suc more)) first second size small f g h u 
 
 -- ---- the tests of questions 9 and 10, of one task more
 
-pub more-preceded : (counts : List ℕ) (t : ℕ) (all : Bool) → 1 ≤ t → all ≡ every (one-or-two counts) (drop 1 (below t)) →
-    (all && leb 1 (getD counts t 0) && leb (getD counts t 0) 2) ≡ every (one-or-two counts) (drop 1 (below (t + 1)))
+pub more-preceded : (memory : List ℕ) (t : ℕ) (all : Bool) → 1 ≤ t → t < 1024 →
+    all ≡ every (one-or-two (parts memory .pending)) (drop 1 (below t)) →
+    (all && leb 1 (getD memory (3072 + t) 0) && leb (getD memory (3072 + t) 0) 2) ≡
+    every (one-or-two (parts memory .pending)) (drop 1 (below (t + 1)))
 unfolding one-or-two
-more-preceded counts t all l e =
-    and-assoc all (leb 1 (getD counts t 0)) (leb (getD counts t 0) 2)
+more-preceded memory t all l inside e =
+    let counts = parts memory .pending in
+    rw (pending-at memory t inside) (and-assoc all (leb 1 (getD counts t 0)) (leb (getD counts t 0) 2))
     ∙ (ap (λ b. b && one-or-two counts t) e
     ∙ sym (ap (λ n. every (one-or-two counts) (drop 1 (below n))) (add-one t) ∙ every-from-one (one-or-two counts) t l))
 
-pub more-followed : (first : List ℕ) (t : ℕ) (all : Bool) → all ≡ every (followed first) (below t) →
-    (all && not (eqb (getD first t 0) 0)) ≡ every (followed first) (below (t + 1))
+pub more-followed : (memory : List ℕ) (t : ℕ) (all : Bool) → t < 1024 → all ≡ every (followed (parts memory .first)) (below t) →
+    (all && not (eqb (getD memory t 0) 0)) ≡ every (followed (parts memory .first)) (below (t + 1))
 unfolding followed
-more-followed first t all e =
-    ap (λ b. b && followed first t) e ∙ sym (ap (λ n. every (followed first) (below n)) (add-one t) ∙ every-below (followed first) t)
+more-followed memory t all inside e =
+    let first = parts memory .first in
+    rw (first-at memory t inside) (ap (λ b. b && followed first t) e)
+    ∙ sym (ap (λ n. every (followed first) (below n)) (add-one t) ∙ every-below (followed first) t)

@@ -1,0 +1,58 @@
+-- The parts of a job's memory: one list holds them all, each in a region of its own.
+use mathlib.Core.Path.{_≡_}
+use mathlib.Core.List.{List}
+use Prim.Native.Nat.{ℕ}
+use lib.ListN.{take, drop}
+
+-- so many elements from an offset on
+unfoldable pub region : ℕ → ℕ → List ℕ → List ℕ
+region offset size memory = take size (drop offset memory)
+
+pub record Parts : Type 0 where
+  pub first : List ℕ  -- of each task its first successor, 0 for none
+  pub second : List ℕ  -- .. and its second
+  pub next : List ℕ  -- of each task in a deque the one behind it
+  pub pending : List ℕ  -- of each task how many predecessors it still awaits, or that it is worked
+  pub ends : List ℕ  -- of each deque its front and its size
+
+unfoldable pub parts : List ℕ → Parts
+parts memory =
+    record {
+      first = region 0 1024 memory;
+      second = region 1024 1024 memory;
+      next = region 2048 1024 memory;
+      pending = region 3072 1024 memory;
+      ends = region 4096 256 memory;
+    }
+
+-- so many elements have all parts
+abbrev pub memory-size : ℕ
+memory-size = 4352
+
+-- these parts with another one in place of one of them
+abbrev pub with-next : Parts → List ℕ → Parts
+with-next p l = record { first = p .first; second = p .second; next = l; pending = p .pending; ends = p .ends }
+
+abbrev pub with-pending : Parts → List ℕ → Parts
+with-pending p l = record { first = p .first; second = p .second; next = p .next; pending = l; ends = p .ends }
+
+abbrev pub with-ends : Parts → List ℕ → Parts
+with-ends p l = record { first = p .first; second = p .second; next = p .next; pending = p .pending; ends = l }
+
+-- the plan's graph is the same
+pub record SameGraph (p p′ : Parts) : Type 0 where
+  pub same-first : p′ .first ≡ p .first
+  pub same-second : p′ .second ≡ p .second
+
+-- only links and numbers of predecessors may differ
+pub record SameButLinks (p p′ : Parts) : Type 0 where
+  pub same-first : p′ .first ≡ p .first
+  pub same-second : p′ .second ≡ p .second
+  pub same-ends : p′ .ends ≡ p .ends
+
+-- only the deques' ends may differ
+pub record SameButEnds (p p′ : Parts) : Type 0 where
+  pub same-first : p′ .first ≡ p .first
+  pub same-second : p′ .second ≡ p .second
+  pub same-next : p′ .next ≡ p .next
+  pub same-pending : p′ .pending ≡ p .pending

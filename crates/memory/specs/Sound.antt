@@ -1,0 +1,67 @@
+-- When the parts and numbers of a job are sound: they show an execution that obeys the laws of executions, and what the code keeps beside
+-- it is right.
+use mathlib.Core.Path.{_≡_}
+use mathlib.Core.Bool.{Bool, false}
+use mathlib.Core.List.{List}
+use Prim.Native.Nat.{ℕ, _+_, _≤_, _<_}
+use lib.ListN.{length, getD}
+use Rattle.model.specs.Tests.{count-set}
+use Rattle.model.specs.Plan.{Graph}
+use Rattle.model.specs.Machine.{Execution}
+use Rattle.model.specs.Statements.{SoundGraph}
+use Rattle.laws.specs.Awaited.{still-awaited}
+use Rattle.laws.specs.Invariants.{Placed, Bounded, Tallied}
+use Rattle.memory.specs.Parts.{Parts}
+use Rattle.memory.specs.Words.{Numbers}
+use Rattle.memory.specs.Graphs.{graph}
+use Rattle.memory.specs.View.{view, worked-view}
+
+-- the parts' lengths
+pub record Sizes (p : Parts) : Type 0 where
+  pub firsts : length (p .first) ≡ 1024
+  pub seconds : length (p .second) ≡ 1024
+  pub links : length (p .next) ≡ 1024
+  pub numbers : length (p .pending) ≡ 1024
+  pub places : length (p .ends) ≡ 256
+
+-- what the laws of executions tell, with at most 64 workers
+pub record Lawful (graph : Graph) (e : Execution) : Type 0 where
+  pub placed : Placed graph e
+  pub bounded : Bounded 64 e
+  pub tallied : Tallied e
+
+-- how many predecessors of a task are not worked
+unfoldable pub awaited : Graph → List Bool → ℕ → ℕ
+awaited graph worked t = still-awaited graph worked t
+
+-- what the code keeps beside the execution
+pub record Kept (graph : Graph) (p : Parts) (m : Numbers) : Type 0 where
+  pub pending-right : (t : ℕ) → t < m .tasks → getD (worked-view (p .pending) (m .tasks)) t false ≡ false →
+      getD (p .pending) t 0 ≡ awaited graph (worked-view (p .pending) (m .tasks)) t
+  pub done-right : m .done ≡ count-set (worked-view (p .pending) (m .tasks))
+  pub head-in-ring : m .head < 64
+
+pub record Sound (p : Parts) (m : Numbers) : Type 0 where
+  pub sizes : Sizes p
+  pub few-tasks : m .tasks ≤ 1024
+  pub planned : SoundGraph (graph p (m .tasks))
+  pub lawful : Lawful (graph p (m .tasks)) (view p m)
+  pub kept : Kept (graph p (m .tasks)) p m
+
+-- no count exceeds this
+pub record Room (most : ℕ) (m : Numbers) : Type 0 where
+  pub works-fit : m .works ≤ most
+  pub mugs-fit : m .mugs ≤ most
+  pub steals-fit : m .steals ≤ most
+  pub successes-fit : m .successes ≤ most
+  pub usage-fits : m .usage ≤ most
+
+-- no count grew by more than this, and tasks and workers are as many as before
+pub record Grown (more : ℕ) (before after : Numbers) : Type 0 where
+  pub same-tasks : after .tasks ≡ before .tasks
+  pub same-workers : after .workers ≡ before .workers
+  pub works-grew : after .works ≤ before .works + more
+  pub mugs-grew : after .mugs ≤ before .mugs + more
+  pub steals-grew : after .steals ≤ before .steals + more
+  pub successes-grew : after .successes ≤ before .successes + more
+  pub usage-grew : after .usage ≤ before .usage + more

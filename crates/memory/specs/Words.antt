@@ -1,0 +1,74 @@
+-- What each of a job's 18 words is.
+use mathlib.Core.Path.{_≡_}
+use mathlib.Core.Bool.{Bool, not}
+use mathlib.Core.List.{List}
+use Prim.Native.Nat.{ℕ, _≤_}
+use lib.Dec.{eqb}
+use lib.ListN.{length, getD}
+use Rattle.model.specs.Plan.{Terms}
+
+-- so many words has a job
+abbrev pub word-count : ℕ
+word-count = 18
+
+abbrev pub word : List ℕ → ℕ → ℕ
+word words place = getD words place 0
+
+-- a flag is set where its word is not 0
+abbrev pub flag : List ℕ → ℕ → Bool
+flag words place = not (eqb (word words place) 0)
+
+-- the numbers of the execution
+pub record Numbers : Type 0 where
+  pub tasks : ℕ
+  pub workers : ℕ  -- the granted count
+  pub done : ℕ  -- how many tasks are worked
+  pub works : ℕ  -- work cycles
+  pub mugs : ℕ  -- mug cycles
+  pub steals : ℕ  -- steal cycles
+  pub successes : ℕ  -- successful steals
+  pub usage : ℕ  -- work and mug cycles of the quantum last opened
+  pub head : ℕ  -- the ring's entry of the oldest muggable deque
+  pub waiting : ℕ  -- how many muggable deques there are
+
+abbrev pub numbers-in : List ℕ → Numbers
+numbers-in words =
+    record {
+      tasks = word words 0;
+      workers = word words 1;
+      done = word words 2;
+      works = word words 3;
+      mugs = word words 4;
+      steals = word words 5;
+      successes = word words 6;
+      usage = word words 7;
+      head = word words 8;
+      waiting = word words 9;
+    }
+
+-- the plan's terms: R, D and L
+abbrev pub terms-in : List ℕ → Terms
+terms-in words =
+    record { responsiveness = word words 10; utilization = word words 11; quantum-length = word words 12 }
+
+-- what calls move beside the execution
+abbrev pub desire-in : List ℕ → ℕ
+desire-in words = word words 13
+
+abbrev pub started-in : List ℕ → Bool
+started-in words = flag words 14
+
+abbrev pub open-in : List ℕ → Bool
+open-in words = flag words 15
+
+-- the ticks of the quantum that is open
+abbrev pub ticks-in : List ℕ → ℕ
+ticks-in words = word words 16
+
+abbrev pub begun-in : List ℕ → ℕ
+begun-in words = word words 17
+
+-- only the numbers of the execution may differ
+pub record SameTail (words words′ : List ℕ) : Type 0 where
+  pub same-length : length words′ ≡ length words
+  pub same-from : (place : ℕ) → 10 ≤ place → word words′ place ≡ word words place
