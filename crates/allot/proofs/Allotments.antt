@@ -1,20 +1,43 @@
--- A grant: what it asks of its parts, and what the arrays and numbers show after it.
+-- A grant: what it asks of its steps, and what the memory and the words show after it.
 use mathlib.Core.Path.{_≡_, refl, sym, ap, _∙_}
-use mathlib.Core.Bool.{Bool, true, false}
+use mathlib.Core.Bool.{false, not}
 use mathlib.Core.List.{List, [], _∷_, _++_}
 use Prim.Native.Nat.{ℕ, zero, suc, _≤_, _<_}
 use native.Mathlib.Omega.{arith}
 use native.Mathlib.Nat.{sub-zero}
 use lib.ListN.{length, drop, set}
+use borrow.Author.Tests.{eq-eqb, ne-eqb}
 use Rattle.model.specs.Tests.{below}
 use Rattle.model.specs.Machine.{grant, kept-deques, withdrawn-deques, place-first-task, first-task-placed}
 use Rattle.laws.specs.Invariants.{busy}
-use Rattle.laws.proofs.Lists.{busy-non-empty, busy-split}
-use Rattle.deque.specs.declared.Numbers.{Numbers}
-use Rattle.deque.specs.declared.Deque.{Deque}
-use Rattle.deque.specs.View.{walk, put-deque, deques-view, muggable-view}
-use Rattle.deque.proofs.Views.{workers-shown, muggable-shown, put-places, put-deques, put-muggable}
+use Rattle.laws.proofs.Deques.{busy-non-empty, busy-split}
+use Rattle.memory.specs.declared.Deque.{Deque}
+use Rattle.memory.specs.Parts.{Parts, parts, SameButEnds}
+use Rattle.memory.specs.Words.{word, word-count, Numbers, numbers-in, started-in, SameTail}
+use Rattle.memory.specs.View.{walk, put-part, deques-view, muggable-view, view}
+use Rattle.memory.proofs.Views.{workers-shown, muggable-shown, put-places, put-deques, put-muggable}
+use Rattle.memory.proofs.Words.{by-words, tail-then, tail-store}
 use Rattle.allot.specs.Grants.{Joined, joining-withdrawn, Withdrawable, Cleared, numbers-after, Grantable, Granted}
+use Rattle.allot.proofs.Ring.{ends-moved, moved-then}
+
+-- ---- the words
+
+-- the words after a grant of g that leaves so many muggable deques
+abbrev pub words-after : List ℕ → ℕ → ℕ → List ℕ
+words-after words g waiting = set (set (set words 1 g) 7 0) 9 waiting
+
+module _ (words : List ℕ) (g waiting : ℕ) where
+  numbers-stored : length words ≡ word-count → numbers-in (words-after words g waiting) ≡ numbers-after (numbers-in words) g waiting
+  numbers-stored size =
+      by-words (λ (l : List ℕ). numbers-in (words-after l g waiting) ≡ numbers-after (numbers-in l) g waiting)
+      (λ w0 w1 w2 w3 w4 w5 w6 w7 w8 w9 w10 w11 w12 w13 w14 w15 w16 w17. refl) words size
+
+  tail-stored : SameTail words (words-after words g waiting)
+  tail-stored =
+      tail-then (tail-store words 1 g (omega arith))
+      (tail-then (tail-store (set words 1 g) 7 0 (omega arith)) (tail-store (set (set words 1 g) 7 0) 9 waiting (omega arith)))
+
+-- ---- the deques
 
 -- task 0 alone
 abbrev pub first-task : Deque
@@ -34,74 +57,95 @@ busy-withdrawn : (g : ℕ) (ds : List (List ℕ)) → length (withdrawn-deques g
 unfolding withdrawn-deques
 busy-withdrawn g ds = omega (arith, busy-non-empty (drop g ds), busy-split g ds)
 
-module _ {ends : List ℕ} {m : Numbers} {started : Bool} {g : ℕ} (w : Grantable ends m started g) where
-  some-workers : m .workers ≤ 64
-  some-workers = rw (workers-shown (w .next) ends (m .workers)) at (w .bounded .workers)
+-- ---- the grant
 
-  pub withdrawable : Withdrawable ends (m .head) (m .waiting) g (m .workers)
+module _ {memory words : List ℕ} {g : ℕ} (w : Grantable memory words g) where
+  abbrev p : Parts
+  p = parts memory
+
+  abbrev m : Numbers
+  m = numbers-in words
+
+  some-workers : m .workers ≤ 64
+  some-workers = rw (workers-shown (p .next) (p .ends) (m .workers)) at (w .bounded .workers)
+
+  pub withdrawable : Withdrawable (p .ends) (m .head) (m .waiting) g (m .workers)
   withdrawable =
+      let next = p .next in
+      let shown = muggable-shown next (p .ends) (m .head) (m .waiting) in
       record {
         places = w .places;
         head-in-ring = w .head-in-ring;
         some-workers = some-workers;
-        links = w .next;
-        room =
-            omega
-            (arith, w .bounded .lines, muggable-shown (w .next) ends (m .head) (m .waiting), busy-withdrawn g (deques-view (w .next) ends (m .workers)));
+        links = next;
+        room = omega (arith, w .bounded .lines, busy-withdrawn g (deques-view next (p .ends) (m .workers)));
       }
 
-  -- a grant, by what it shows of the deques and of the muggable ones
-  granted : {ends′ : List ℕ} {waiting : ℕ} → length ends′ ≡ 256 →
-      ((next : List ℕ) → deques-view next ends′ g ≡ first-task-placed started (kept-deques g (deques-view next ends (m .workers)))) →
-      ((next : List ℕ) → muggable-view next ends′ (m .head) waiting ≡ muggable-view next ends (m .head) (m .waiting) ++ joining-withdrawn ends g (m .workers) next) →
-      Granted ends m started g ends′ (numbers-after m g waiting)
+  -- what the grant leaves of the deques, and adds to the muggable ones
+  abbrev kept : List ℕ → List (List ℕ)
+  kept next = kept-deques g (deques-view next (p .ends) (m .workers))
+
+  abbrev with-withdrawn : List ℕ → List (List ℕ)
+  with-withdrawn next = muggable-view next (p .ends) (m .head) (m .waiting) ++ joining-withdrawn (p .ends) g (m .workers) next
+
+  -- a grant, by what it shows of the two
+  granted : {memory′ : List ℕ} (waiting : ℕ) (p′ : Parts) → parts memory′ ≡ p′ → SameButEnds p p′ → length (p′ .ends) ≡ 256 →
+      ((next : List ℕ) → deques-view next (p′ .ends) g ≡ first-task-placed (started-in words) (kept next)) →
+      ((next : List ℕ) → muggable-view next (p′ .ends) (m .head) waiting ≡ with-withdrawn next) →
+      Granted memory words g memory′ (words-after words g waiting)
   unfolding grant
-  granted places deques ring =
+  granted waiting p′ is same places deques ring =
+      let stored = numbers-stored words g waiting (w .size) in
       record {
-        shown = λ pending next s e st. rw (e, st, deques next, ring next) refl;
-        places = places;
-        head-in-ring = w .head-in-ring;
-        same-tasks = refl;
-        same-done = refl;
-        same-works = refl;
-        same-mugs = refl;
-        same-steals = refl;
-        same-successes = refl;
-        now-workers = refl;
-        no-usage = refl;
+        shown = λ s e st.
+            rw is
+            (ap (view p′) stored
+            ∙ rw (same .same-next, same .same-pending, e, st, deques (p .next), ring (p .next)) refl);
+        same-parts = rw is same;
+        places = rw is places;
+        numbers = stored ∙ ap (λ (n : Numbers). numbers-after m g (n .waiting)) (sym stored);
+        tail = tail-stored words g waiting;
       }
 
-  module _ {ends₁ ends₂ : List ℕ} {waiting : ℕ} (j : Joined (m .head) ends (m .waiting) ends₁ waiting (joining-withdrawn ends g (m .workers)))
-      (c : Cleared ends₁ (m .workers) g ends₂) where
-    kept : (next : List ℕ) → deques-view next ends₂ g ≡ kept-deques g (deques-view next ends (m .workers))
-    kept next = c .kept next ∙ ap (kept-deques g) (j .workers-stay next (m .workers) some-workers)
+  -- after the withdrawal and the clearing
+  module _ {q r : Parts} {waiting : ℕ}
+      (j : Joined (m .head) (p .ends) (m .waiting) (q .ends) waiting (joining-withdrawn (p .ends) g (m .workers)) × SameButEnds p q)
+      (c : Cleared (q .ends) (m .workers) g (r .ends) × SameButEnds q r) where
+    kept-shown : (next : List ℕ) → deques-view next (r .ends) g ≡ kept next
+    kept-shown next = c .0 .kept next ∙ ap (kept-deques g) (j .0 .workers-stay next (m .workers) some-workers)
 
-    ring : (next : List ℕ) → muggable-view next ends₂ (m .head) waiting ≡ muggable-view next ends (m .head) (m .waiting) ++ joining-withdrawn ends g (m .workers) next
-    ring next = c .ring-stays next (m .head) waiting ∙ j .at-end next
+    ring-shown : (next : List ℕ) → muggable-view next (r .ends) (m .head) waiting ≡ with-withdrawn next
+    ring-shown next = c .0 .ring-stays next (m .head) waiting ∙ j .0 .at-end next
 
     -- a count above 0 was granted before
-    pub granted-later : started ≡ true → Granted ends m started g ends₂ (numbers-after m g waiting)
+    pub granted-later : (word words 14 ≡ 0 → ⊥) → {memory′ : List ℕ} → parts memory′ ≡ r →
+        Granted memory words g memory′ (words-after words g waiting)
     unfolding first-task-placed
-    granted-later s = granted (c .places) (λ next. rw s (kept next)) ring
+    granted-later started is =
+        granted waiting r is (moved-then (j .1) (c .1)) (c .0 .places)
+        (λ next. rw (ne-eqb (word words 14) 0 started) (kept-shown next)) ring-shown
+
+    unset : word words 14 ≡ 0 → started-in words ≡ false
+    unset none = ap not (eq-eqb (word words 14) 0 none)
 
     -- there is no worker 0 yet
-    pub granted-nothing : started ≡ false → g ≡ 0 → Granted ends m started g ends₂ (numbers-after m g waiting)
+    pub granted-nothing : word words 14 ≡ 0 → g ≡ 0 → {memory′ : List ℕ} → parts memory′ ≡ r →
+        Granted memory words g memory′ (words-after words g waiting)
     unfolding first-task-placed
-    granted-nothing s none =
-        granted (c .places)
-        (λ next.
-        let empty = no-workers next ends₂ g none in
-        rw (s, sym (kept next), empty) refl)
-        ring
+    granted-nothing e none is =
+        granted waiting r is (moved-then (j .1) (c .1)) (c .0 .places)
+        (λ next. rw (unset e, sym (kept-shown next), no-workers next (r .ends) g none) refl) ring-shown
 
     -- "The first grant above 0 puts piece 0 in worker 0's line."
-    pub granted-first : started ≡ false → (g ≡ 0 → ⊥) → Granted ends m started g (put-deque ends₂ 0 first-task) (numbers-after m g waiting)
+    pub granted-first : word words 14 ≡ 0 → (g ≡ 0 → ⊥) → {memory′ : List ℕ} → parts memory′ ≡ put-part r 0 first-task →
+        Granted memory words g memory′ (words-after words g waiting)
     unfolding first-task-placed walk
-    granted-first s some =
-        granted (put-places [] ends₂ (c .places) 0 (omega arith) first-task)
+    granted-first e some is =
+        granted waiting (put-part r 0 first-task) is (moved-then (j .1) (moved-then (c .1) ends-moved))
+        (put-places [] (r .ends) (c .0 .places) 0 (omega arith) first-task)
         (λ next.
-        rw s
-        (put-deques next ends₂ (c .places) 0 (omega arith) first-task g (omega arith) (w .at-most)
-        ∙ rw (kept next)
-        (first-placed g (deques-view next ends (m .workers)) (omega arith) (no-workers next ends (m .workers) (w .unstarted s)))))
-        (λ next. put-muggable next ends₂ (c .places) 0 (omega arith) first-task (omega arith) (m .head) waiting ∙ ring next)
+        let none = no-workers next (p .ends) (m .workers) (w .unstarted (unset e)) in
+        rw (unset e)
+        (put-deques next (r .ends) (c .0 .places) 0 (omega arith) first-task g (omega arith) (w .at-most)
+        ∙ rw (kept-shown next) (first-placed g (deques-view next (p .ends) (m .workers)) (omega arith) none)))
+        (λ next. put-muggable next (r .ends) (c .0 .places) 0 (omega arith) first-task (omega arith) (m .head) waiting ∙ ring-shown next)

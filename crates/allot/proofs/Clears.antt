@@ -11,12 +11,11 @@ use lib.Seq.{take-all, length-take-le, getD-take, ext-getD}
 use borrow.Author.Tests.{leb-true, leb-false}
 use Rattle.model.specs.Tests.{below}
 use Rattle.model.specs.Machine.{kept-deques}
-use Rattle.deque.specs.declared.Deque.{Deque}
-use Rattle.deque.specs.View.{walk, put-deque, deque-at, deques-view, muggable-view}
-use Rattle.deque.proofs.Tables.{table-length, table-at, table-same}
-use Rattle.deque.proofs.Views.{workers-shown, put-places, put-here, put-elsewhere, put-muggable}
+use Rattle.memory.specs.declared.Deque.{Deque}
+use Rattle.memory.specs.View.{walk, put-deque, deque-at, deques-view, muggable-view}
+use Rattle.lists.proofs.Tables.{table-more, table-length, table-at, table-same}
+use Rattle.memory.proofs.Views.{workers-shown, put-places, put-here, put-elsewhere, put-muggable}
 use Rattle.allot.specs.Grants.{Cleared}
-use Rattle.allot.proofs.Ring.{table-more}
 
 -- no task
 abbrev pub no-deque : Deque
@@ -69,11 +68,12 @@ module _ {ends₀ : List ℕ} {workers g : ℕ} {ends : List ℕ} {worker : ℕ}
             table-same (deque-at next ends) (deque-at next (put-deque ends worker no-deque)) worker
             (λ i l. put-elsewhere next ends (at .places) worker (omega arith) no-deque i (omega arith) (λ e. omega arith)) in
             let more : suc worker - workers ≡ (worker - workers) + 1 = omega (arith, at .from) in
-            rw add-one
+            rw (add-one worker)
             (table-more (deque-at next (put-deque ends worker no-deque)) worker
             ∙ rw (put-here next ends (at .places) worker (omega arith) no-deque, past, at .emptied next, append-assoc, more)
             (ap (λ (l : List (List ℕ)). deques-view next ends₀ workers ++ l) (replicate-append-replicate (worker - workers) 1 [])));
-        ring-stays = λ next head waiting. put-muggable next ends (at .places) worker (omega arith) no-deque (omega arith) head waiting ∙ at .ring-stays next head waiting;
+        ring-stays = λ next head waiting.
+            put-muggable next ends (at .places) worker (omega arith) no-deque (omega arith) head waiting ∙ at .ring-stays next head waiting;
       }
 
   pub clearing-done : g ≤ worker → Cleared ends₀ workers g ends

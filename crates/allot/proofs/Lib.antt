@@ -3,4 +3,3 @@ pub mod Ring
 pub mod Withdrawals
 pub mod Clears
 pub mod Allotments
-pub mod Soundness

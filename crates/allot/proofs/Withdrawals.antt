@@ -9,8 +9,8 @@ use lib.ListN.{length, getD, drop, length-append, drop-of-length-le}
 use lib.Seq.{drop-cons}
 use Rattle.model.specs.Tests.{keep, is-empty}
 use Rattle.model.specs.Machine.{withdrawn-deques}
-use Rattle.deque.specs.View.{deque-at, deques-view, muggable-view}
-use Rattle.deque.proofs.Views.{deque-length, worker-at, workers-shown, muggable-shown}
+use Rattle.memory.specs.View.{deque-at, deques-view, muggable-view}
+use Rattle.memory.proofs.Views.{deque-length, worker-at, workers-shown, muggable-shown}
 use Rattle.allot.specs.Grants.{Joined, joining-deque, Joinable, joining-withdrawn, Withdrawable}
 use Rattle.allot.proofs.Ring.{one-kept}
 

@@ -1,14 +1,15 @@
--- What the functions of this crate ask and promise: a grant, over the arrays' elements and the numbers of a job.
+-- What the functions of this crate ask and promise: a grant, in a job's memory and words.
 use mathlib.Core.Path.{_≡_}
-use mathlib.Core.Bool.{Bool, false, not}
+use mathlib.Core.Bool.{false, not}
 use mathlib.Core.List.{List, [], _∷_, _++_}
 use Prim.Native.Nat.{ℕ, _+_, _≤_, _<_}
 use lib.ListN.{length, getD}
 use Rattle.model.specs.Tests.{keep, is-empty}
 use Rattle.model.specs.Machine.{State, grant, kept-deques, withdrawn-deques}
 use Rattle.laws.specs.Invariants.{Bounded}
-use Rattle.deque.specs.declared.Numbers.{Numbers}
-use Rattle.deque.specs.View.{size-at, deque-at, deques-view, muggable-view, view}
+use Rattle.memory.specs.Parts.{parts, SameButEnds}
+use Rattle.memory.specs.Words.{word-count, Numbers, numbers-in, started-in, SameTail}
+use Rattle.memory.specs.View.{size-at, deque-at, deques-view, muggable-view, view}
 
 -- ---- deques that join the ring's end
 
@@ -67,30 +68,22 @@ numbers-after m g waiting =
       waiting = waiting;
     }
 
--- what a grant asks of the arrays and numbers
-pub record Grantable (ends : List ℕ) (m : Numbers) (started : Bool) (g : ℕ) : Type 0 where
-  pub places : length ends ≡ 256
-  pub head-in-ring : m .head < 64
+-- what a grant asks of the memory and the words
+pub record Grantable (memory words : List ℕ) (g : ℕ) : Type 0 where
+  pub size : length words ≡ word-count
+  pub places : length (parts memory .ends) ≡ 256
+  pub head-in-ring : numbers-in words .head < 64
   pub at-most : g ≤ 64
-  -- the bound on deques, which depends on no task and no link: any that the caller knows it of
-  pub pending : List ℕ
-  pub next : List ℕ
-  pub bounded : Bounded 64 (view pending next ends m)
+  pub bounded : Bounded 64 (view (parts memory) (numbers-in words))
   -- before anything above 0 was granted there is no worker
-  pub unstarted : started ≡ false → m .workers ≡ 0
+  pub unstarted : started-in words ≡ false → numbers-in words .workers ≡ 0
 
 -- what a grant does
-pub record Granted (ends : List ℕ) (m : Numbers) (started : Bool) (g : ℕ) (ends′ : List ℕ) (m′ : Numbers) : Type 0 where
-  -- whatever the tasks and links are, the arrays and numbers show the execution that `model` says
-  pub shown : (pending next : List ℕ) (s : State) → s .execution ≡ view pending next ends m → s .started ≡ started →
-      view pending next ends′ m′ ≡ grant g s .execution
-  pub places : length ends′ ≡ 256
-  pub head-in-ring : m′ .head < 64
-  pub same-tasks : m′ .tasks ≡ m .tasks
-  pub same-done : m′ .done ≡ m .done
-  pub same-works : m′ .works ≡ m .works
-  pub same-mugs : m′ .mugs ≡ m .mugs
-  pub same-steals : m′ .steals ≡ m .steals
-  pub same-successes : m′ .successes ≡ m .successes
-  pub now-workers : m′ .workers ≡ g
-  pub no-usage : m′ .usage ≡ 0
+pub record Granted (memory words : List ℕ) (g : ℕ) (memory′ words′ : List ℕ) : Type 0 where
+  -- the memory and the words show the execution that `model` says
+  pub shown : (s : State) → s .execution ≡ view (parts memory) (numbers-in words) → s .started ≡ started-in words →
+      view (parts memory′) (numbers-in words′) ≡ grant g s .execution
+  pub same-parts : SameButEnds (parts memory) (parts memory′)
+  pub places : length (parts memory′ .ends) ≡ 256
+  pub numbers : numbers-in words′ ≡ numbers-after (numbers-in words) g (numbers-in words′ .waiting)
+  pub tail : SameTail words words′

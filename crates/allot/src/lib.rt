@@ -2,79 +2,81 @@
 ghost use mathlib.Core.Path.{_≡_};
 ghost use Prim.Native.Nat.{_≤_};
 ghost use lib.ListN.{length};
-ghost use Rattle.allot.specs.Grants.{Joined, joining-deque, Joinable, joining-withdrawn, Withdrawable, Cleared, numbers-after, Grantable, Granted};
-use deque::Deque;
-use deque::Numbers;
+ghost use Rattle.memory.specs.Parts.{parts, SameButEnds};
+ghost use Rattle.allot.specs.Grants.{Joined, joining-deque, Joinable, joining-withdrawn, Withdrawable, Cleared, Grantable, Granted};
+use memory::Deque;
 
 // A worker's deque joins the end of the muggable ones; an empty one vanishes. How many wait then.
-fn join(ends: &mut [u16; 256], head: usize, waiting: usize, worker: usize) -> usize
-    requires { ⌜ Joinable (now ends) head waiting worker ⌝ }
-    ensures { λ r. ⌜ Joined head (now (ends .entry)) waiting (now (ends .exit)) r (joining-deque (now (ends .entry)) worker) ⌝ }
+fn join(memory: &mut [u16; 4352], head: usize, waiting: usize, worker: usize) -> usize
+    requires { ⌜ Joinable (parts (now memory) .ends) head waiting worker ⌝ }
+    ensures joined { λ r. ⌜ Joined head (parts (now (memory .entry)) .ends) waiting (parts (now (memory .exit)) .ends) r
+        (joining-deque (parts (now (memory .entry)) .ends) worker) ⌝ }
+    ensures rest { λ _. ⌜ SameButEnds (parts (now (memory .entry))) (parts (now (memory .exit))) ⌝ }
 {
-    let deque = deque::deque_at(ends, worker);
+    let deque = deque::deque_at(memory, worker);
     if deque.size == 0 {
         return waiting;
     }
     let place = 64 + (head + waiting) % 64;
-    deque::put(ends, place, deque);
+    deque::put(memory, place, deque);
     waiting + 1
 }
 
 // "workers g and up are withdrawn; their non-empty lines join the end of the orphans in rising worker order". How many wait then.
-fn withdraw(ends: &mut [u16; 256], head: usize, waiting: usize, g: usize, workers: usize) -> usize
-    requires { ⌜ Withdrawable (now ends) head waiting g workers ⌝ }
-    ensures { λ r. ⌜ Joined head (now (ends .entry)) waiting (now (ends .exit)) r (joining-withdrawn (now (ends .entry)) g workers) ⌝ }
+fn withdraw(
+    memory: &mut [u16; 4352],
+    head: usize,
+    waiting: usize,
+    g: usize,
+    workers: usize,
+) -> usize
+    requires { ⌜ Withdrawable (parts (now memory) .ends) head waiting g workers ⌝ }
+    ensures joined { λ r. ⌜ Joined head (parts (now (memory .entry)) .ends) waiting (parts (now (memory .exit)) .ends) r
+        (joining-withdrawn (parts (now (memory .entry)) .ends) g workers) ⌝ }
+    ensures rest { λ _. ⌜ SameButEnds (parts (now (memory .entry))) (parts (now (memory .exit))) ⌝ }
 {
     let mut joined = waiting;
     let mut worker = g;
     while worker < workers {
-        joined = join(ends, head, joined, worker);
+        joined = join(memory, head, joined, worker);
         worker += 1;
     }
     joined
 }
 
 // "If g exceeds the last granted count, the new workers have empty lines."
-fn clear(ends: &mut [u16; 256], workers: usize, g: usize)
-    requires { ⌜ (length (now ends) ≡ 256) × (g ≤ 64) ⌝ }
-    ensures { λ _. ⌜ Cleared (now (ends .entry)) workers g (now (ends .exit)) ⌝ }
+fn clear(memory: &mut [u16; 4352], workers: usize, g: usize)
+    requires { ⌜ (length (parts (now memory) .ends) ≡ 256) × (g ≤ 64) ⌝ }
+    ensures cleared { λ _. ⌜ Cleared (parts (now (memory .entry)) .ends) workers g (parts (now (memory .exit)) .ends) ⌝ }
+    ensures rest { λ _. ⌜ SameButEnds (parts (now (memory .entry))) (parts (now (memory .exit))) ⌝ }
 {
     let mut worker = workers;
     while worker < g {
-        deque::put(ends, worker, Deque { front: 0, size: 0 });
+        deque::put(memory, worker, Deque { front: 0, size: 0 });
         worker += 1;
     }
 }
 
-// The numbers after a grant that leaves so many muggable deques: g workers, and no usage yet.
-fn renumbered(m: Numbers, g: u8, waiting: usize) -> Numbers
-    ensures { λ r. ⌜ r ≡ numbers-after m g waiting ⌝ }
+// A grant of g: its workers, no usage yet, and the muggable deques that wait then. If nothing above 0 was granted before, and g is above 0,
+// task 0 becomes worker 0's deque.
+pub fn allot(memory: &mut [u16; 4352], words: &mut [u64; 18], g: usize)
+    requires { ⌜ Grantable (now memory) (now words) g ⌝ }
+    ensures { λ _. ⌜ Granted (now (memory .entry)) (now (words .entry)) g (now (memory .exit)) (now (words .exit)) ⌝ }
 {
-    let mut r = m;
-    r.workers = g;
-    r.usage = 0;
-    r.waiting = waiting;
-    r
-}
-
-// A grant of g. `started` says whether a count above 0 was granted before; if not, and g is above 0, task 0 becomes worker 0's deque.
-pub fn allot(ends: &mut [u16; 256], m: Numbers, started: bool, g: u8) -> Numbers
-    requires { ⌜ Grantable (now ends) m started g ⌝ }
-    ensures { λ r. ⌜ Granted (now (ends .entry)) m started g (now (ends .exit)) r ⌝ }
-{
-    let head = m.head;
-    let before = m.waiting;
-    let workers = m.workers as usize;
-    let kept = g as usize;
-    let waiting = withdraw(ends, head, before, kept, workers);
-    clear(ends, workers, kept);
-    let r = renumbered(m, g, waiting);
-    if started {
-        return r;
+    let workers = words[1] as usize;
+    let head = words[8] as usize;
+    let before = words[9] as usize;
+    let started = words[14];
+    let waiting = withdraw(memory, head, before, g, workers);
+    clear(memory, workers, g);
+    words[1] = g as u64;
+    words[7] = 0;
+    words[9] = waiting as u64;
+    if started != 0 {
+        return;
     }
     if g == 0 {
-        return r;
+        return;
     }
-    deque::put(ends, 0, Deque { front: 0, size: 1 });
-    r
+    deque::put(memory, 0, Deque { front: 0, size: 1 });
 }

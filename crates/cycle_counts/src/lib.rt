@@ -1,9 +1,10 @@
 // "Work ticks, mug ticks and steal ticks are three counts, and no total of one kind takes a tick of another": one tuple struct each. The
 // fields are private, and what stands here is all that can be done with a count: none, one more, another of the same kind added, the number
-// to show, and, for a job in lent memory, the count that its words keep. So adding one kind to another cannot be written elsewhere.
+// to show, and the word that keeps it; the steal cycles of a tick are those of neither other kind. So adding one kind to another cannot be
+// written elsewhere.
 ghost use mathlib.Core.Path.{_≡_};
-ghost use Prim.Native.Nat.{_+_, _<_, _^_};
-ghost use lib.ListN.{getD};
+ghost use Prim.Native.Nat.{_+_, _-_, _≤_, _<_, _^_};
+ghost use lib.ListN.{getD, set};
 
 // Work ticks.
 pub struct WorkCycles(u64);
@@ -41,6 +42,13 @@ impl WorkCycles {
         ensures { λ r. ⌜ r ≡ record { 0 = getD (now (words .entry)) 3 0 } ⌝ }
     {
         WorkCycles(words[3])
+    }
+
+    // The count goes into the word that keeps it.
+    pub fn keep(self, words: &mut [u64; 18])
+        ensures { λ _. ⌜ now (words .exit) ≡ set (now (words .entry)) 3 (self .0) ⌝ }
+    {
+        words[3] = self.0;
     }
 }
 
@@ -81,25 +89,19 @@ impl MugCycles {
     {
         MugCycles(words[4])
     }
+
+    // The count goes into the word that keeps it.
+    pub fn keep(self, words: &mut [u64; 18])
+        ensures { λ _. ⌜ now (words .exit) ≡ set (now (words .entry)) 4 (self .0) ⌝ }
+    {
+        words[4] = self.0;
+    }
 }
 
 // Steal ticks, successful or not.
 pub struct StealCycles(u64);
 
 impl StealCycles {
-    pub fn none() -> StealCycles
-        ensures { λ r. ⌜ r ≡ record { 0 = 0 } ⌝ }
-    {
-        StealCycles(0)
-    }
-
-    pub fn one_more(self) -> StealCycles
-        requires { ⌜ self .0 + 1 < 2 ^ 64 ⌝ }
-        ensures { λ r. ⌜ r ≡ record { 0 = self .0 + 1 } ⌝ }
-    {
-        StealCycles(self.0 + 1)
-    }
-
     pub fn plus(self, more: StealCycles) -> StealCycles
         requires { ⌜ self .0 + more .0 < 2 ^ 64 ⌝ }
         ensures { λ r. ⌜ r ≡ record { 0 = self .0 + more .0 } ⌝ }
@@ -114,11 +116,26 @@ impl StealCycles {
         self.0
     }
 
+    // Of so many cycles those that are neither work nor mug cycles: a cycle is one of the three.
+    pub fn others(cycles: u64, works: WorkCycles, mugs: MugCycles) -> StealCycles
+        requires { ⌜ works .0 + mugs .0 ≤ cycles ⌝ }
+        ensures { λ r. ⌜ r ≡ record { 0 = cycles - (works .0 + mugs .0) } ⌝ }
+    {
+        StealCycles(cycles - (works.0 + mugs.0))
+    }
+
     // The count that a job's words keep.
     pub fn kept(words: &[u64; 18]) -> StealCycles
         ensures { λ r. ⌜ r ≡ record { 0 = getD (now (words .entry)) 5 0 } ⌝ }
     {
         StealCycles(words[5])
+    }
+
+    // The count goes into the word that keeps it.
+    pub fn keep(self, words: &mut [u64; 18])
+        ensures { λ _. ⌜ now (words .exit) ≡ set (now (words .entry)) 5 (self .0) ⌝ }
+    {
+        words[5] = self.0;
     }
 }
 

@@ -1,5 +1,5 @@
 -- The proofs, by topic.
 pub mod Walks
+pub mod Robbing
 pub mod Releases
-pub mod Tables
-pub mod Views
+pub mod Stores

@@ -1,4 +1,3 @@
--- What the arrays and numbers of a job show, and when they are sound.
-pub mod View
-pub mod Sound
-pub mod Steps
+-- What the functions on deques ask and promise. Links: following them, and taking a deque's back part. Releasing: tasks that become ready.
+pub mod Links
+pub mod Releasing

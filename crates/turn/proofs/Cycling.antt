@@ -1,214 +1,138 @@
--- One cycle of a worker: which of the three kinds it is, that the arrays then show the model's cycle, and that they stay sound.
-use mathlib.Core.Path.{_≡_, refl, sym, ap, subst, _∙_}
+-- One cycle of a worker: which kind it is, and that what shows the model's cycle is sound.
+use mathlib.Core.Path.{_≡_, refl, sym, subst, _∙_}
 use mathlib.Core.List.{List, [], _∷_}
-use Prim.Native.Nat.{ℕ, suc, _+_, _-_, _%_, _≤_, _<_}
+use Prim.Native.Nat.{ℕ, _+_, _-_, _≤_, _<_}
 use native.Mathlib.Omega.{arith}
-use lib.Dec.{ltb}
 use lib.ListN.{length, getD}
-use borrow.Author.Tests.{lt-ltb}
-use Rattle.model.specs.Tests.{below}
-use Rattle.model.specs.Plan.{Plan, tasks}
-use Rattle.model.specs.Machine.{Execution, deque-of, performed, steal-cycle, work-cycle, mug-cycle, cycle-of, cycle}
-use Rattle.model.specs.Statements.{SoundPlan}
-use Rattle.laws.proofs.Lists.{every-from}
-use Rattle.laws.proofs.Placement.{cycle-placed, cycle-tallied, worker-has}
+use borrow.Author.Needs.{needs}
+use borrow.Author.Tests.{le-leb, lt-leb}
+use Rattle.model.specs.Plan.{Graph}
+use Rattle.model.specs.Machine.{Execution, deque-of, work-cycle, mug-cycle, successful-steal, failed-steal, cycle-of, cycle}
+use Rattle.model.specs.Statements.{SoundGraph}
+use Rattle.laws.proofs.Placement.{cycle-placed, cycle-tallied}
 use Rattle.laws.proofs.Bounds.{cycle-bounded}
-use Rattle.deque.specs.declared.Deque.{Deque}
-use Rattle.deque.specs.declared.Numbers.{Numbers}
-use Rattle.deque.specs.View.{walk, size-at, ends-at, deque-at, muggable-view, graph, view}
-use Rattle.deque.specs.Steps.{Reachable}
-use Rattle.deque.specs.Sound.{Sizes, Lawful, Kept, Sound, Within}
-use Rattle.deque.proofs.Walks.{walk-front}
-use Rattle.deque.proofs.Views.{deque-at-is, worker-at, workers-shown, tasks-shown, ring-tail}
-use Rattle.turn.specs.Turns.{MugTurn, Mugged, StealTurn, Stolen, WorkTurn, Worked, ChoiceTurn, Cycled}
+use Rattle.memory.specs.Parts.{Parts, with-ends, SameGraph}
+use Rattle.memory.specs.Words.{Numbers}
+use Rattle.memory.specs.Graphs.{graph}
+use Rattle.memory.specs.View.{walk, front-at, size-at, view}
+use Rattle.memory.specs.Sound.{Sizes, Lawful, Kept, Sound, Grown}
+use Rattle.memory.proofs.Walks.{walk-front}
+use Rattle.memory.proofs.Views.{deque-at-is, worker-at, workers-shown}
+use Rattle.turn.specs.Turns.{after-work, Worked, ChoiceTurn, Cycled}
 
 -- ---- the model's cycle, by what the worker sees
 
-module _ (plan : Plan) (w choice : ℕ) (e : Execution) where
-  works : (t : ℕ) (rest : List ℕ) → deque-of e w ≡ t ∷ rest → cycle plan w choice e ≡ work-cycle plan w t e
+module _ (its-graph : Graph) (w choice : ℕ) (e : Execution) where
+  works : (t : ℕ) (rest : List ℕ) → deque-of e w ≡ t ∷ rest → cycle its-graph w choice e ≡ work-cycle its-graph w t e
   unfolding cycle cycle-of
   works t rest own = rw own
 
-  mugs : (oldest : List ℕ) (others : List (List ℕ)) → deque-of e w ≡ [] → e .muggable ≡ oldest ∷ others → cycle plan w choice e ≡ mug-cycle w oldest e
+  pub mugs : (oldest : List ℕ) (others : List (List ℕ)) → deque-of e w ≡ [] → e .muggable ≡ oldest ∷ others →
+      cycle its-graph w choice e ≡ mug-cycle w oldest e
   unfolding cycle cycle-of
   mugs oldest others own waiting = rw (own, waiting)
 
-  steals : deque-of e w ≡ [] → e .muggable ≡ [] → cycle plan w choice e ≡ performed plan w (steal-cycle choice (deque-of e choice)) e
+  pub robs : deque-of e w ≡ [] → e .muggable ≡ [] → 2 ≤ length (deque-of e choice) →
+      cycle its-graph w choice e ≡ successful-steal w choice e
   unfolding cycle cycle-of
-  steals own none = rw (own, none)
+  robs own none many = rw (own, none, le-leb 2 (length (deque-of e choice)) many)
 
-lawful-cycle : (plan : Plan) (e : Execution) (w choice : ℕ) → SoundPlan plan → Lawful plan e → w < length (e .deques) → Lawful plan (cycle plan w choice e)
-lawful-cycle plan e w choice sound l here =
+  pub fails : deque-of e w ≡ [] → e .muggable ≡ [] → length (deque-of e choice) < 2 → cycle its-graph w choice e ≡ failed-steal e
+  unfolding cycle cycle-of
+  fails own none few = rw (own, none, lt-leb 2 (length (deque-of e choice)) few)
+
+lawful-cycle : (its-graph : Graph) (e : Execution) (w choice : ℕ) → SoundGraph its-graph → Lawful its-graph e → w < length (e .deques) →
+    Lawful its-graph (cycle its-graph w choice e)
+lawful-cycle its-graph e w choice sound l here =
     record {
       placed = cycle-placed sound (l .placed) w choice here;
-      bounded = cycle-bounded plan (l .bounded) w choice here;
+      bounded = cycle-bounded its-graph (l .bounded) w choice here;
       tallied = cycle-tallied sound (l .placed) (l .tallied) w choice here;
     }
 
-none-shown : (next ends : List ℕ) (head : ℕ) → muggable-view next ends head 0 ≡ []
-unfolding muggable-view below
-none-shown next ends head = refl
+-- ---- sound parts and numbers, and a worker of them
 
--- ---- sound arrays and numbers, and a worker of them
-
-module _ {first second pending next ends : List ℕ} {m : Numbers} {w choice : ℕ} (turn : ChoiceTurn first second pending next ends m w choice) where
-  abbrev plan : Plan
-  plan = graph first second (m .tasks)
+module _ {p : Parts} {m : Numbers} {w choice : ℕ} (turn : ChoiceTurn p m w choice) where
+  abbrev its-graph : Graph
+  its-graph = graph p (m .tasks)
 
   abbrev e : Execution
-  e = view pending next ends m
+  e = view p m
 
-  abbrev sound : Sound first second pending next ends m
+  abbrev sound : Sound p m
   sound = turn .turn .sound
 
-  few-workers : m .workers ≤ 64
-  few-workers = omega (arith, sound .lawful .bounded .workers, workers-shown next ends (m .workers))
+  pub few-workers : m .workers ≤ 64
+  few-workers = omega (arith, sound .lawful .bounded .workers, workers-shown (p .next) (p .ends) (m .workers))
 
-  pub worker-place : w < 128
+  pub worker-place : w < 64
   worker-place = omega (arith, few-workers, turn .turn .worker)
 
+  pub choice-place : choice < 64
+  choice-place = omega (arith, few-workers, turn .chosen)
+
+  own-tasks : deque-of e w ≡ walk (p .next) (getD (p .ends) (front-at w) 0) (getD (p .ends) (size-at w) 0)
+  own-tasks = worker-at (p .next) (p .ends) (m .workers) w (turn .turn .worker) ∙ deque-at-is (p .next) (p .ends) w
+
   -- what shows the model's cycle is sound
-  cycled : {pending′ next′ ends′ : List ℕ} {m′ : Numbers} → view pending′ next′ ends′ m′ ≡ cycle plan w choice e → Sizes pending′ next′ ends′ →
-      Kept plan pending′ m′ → Within 1 m m′ → m′ .waiting + m′ .mugs .0 ≡ m .waiting + m .mugs .0 →
-      Cycled first second pending next ends m w choice pending′ next′ ends′ m′
-  cycled {pending′} {m′ = m′} shows sizes kept within mugged =
+  cycled : {p′ : Parts} {m′ : Numbers} → view p′ m′ ≡ cycle its-graph w choice e → SameGraph p p′ → Sizes p′ → Kept its-graph p′ m′ →
+      Grown 1 m m′ → m′ .waiting + m′ .mugs ≡ m .waiting + m .mugs → Cycled p m w choice p′ m′
+  cycled {p′} {m′} shows same sizes kept grown mugged =
+      let same-plan : graph p′ (m′ .tasks) ≡ its-graph = rw (same .same-first, same .same-second, grown .same-tasks) in
       record {
         shows = shows;
         sound =
             record {
               sizes = sizes;
-              few-tasks = rw (within .same-tasks) (sound .few-tasks);
-              planned = rw (within .same-tasks) (sound .planned);
+              few-tasks = rw (grown .same-tasks) (sound .few-tasks);
+              planned = subst SoundGraph (sym same-plan) (sound .planned);
               lawful =
-                  rw (shows, within .same-tasks)
-                  (lawful-cycle plan e w choice (sound .planned) (sound .lawful) (rw (workers-shown next ends (m .workers)) (turn .turn .worker)));
-              kept = subst (λ (n : ℕ). Kept (graph first second n) pending′ m′) (sym (within .same-tasks)) kept;
+                  rw shows
+                  (subst (λ (g : Graph). Lawful g (cycle its-graph w choice e)) (sym same-plan)
+                  (lawful-cycle its-graph e w choice (sound .planned) (sound .lawful)
+                  (rw (workers-shown (p .next) (p .ends) (m .workers)) (turn .turn .worker))));
+              kept = subst (λ (g : Graph). Kept g p′ m′) (sym same-plan) kept;
             };
-        within = within;
+        grown = grown;
         mugged = mugged;
+        same-graph = same;
       }
 
   -- ---- work
 
-  pub work-turn : {d : Deque} → d ≡ ends-at ends w → 0 < d .size → WorkTurn first second pending next ends m w
-  work-turn q some = record { turn = turn .turn; filled = rw (ap (λ (d : Deque). d .size) q) at some }
-
-  pub cycled-work : {d : Deque} {pending′ next′ ends′ : List ℕ} {m′ : Numbers} → d ≡ ends-at ends w → 0 < d .size →
-      (WorkTurn first second pending next ends m w → Worked first second pending next ends m w pending′ next′ ends′ m′) →
-      Cycled first second pending next ends m w choice pending′ next′ ends′ m′
-  cycled-work q some promised =
-      let r = promised (work-turn q some) in
-      let own : deque-of e w ≡ getD ends w 0 ∷ walk next (getD next (getD ends w 0) 0) (getD ends (size-at w) 0 - 1) =
-      worker-at next ends (m .workers) w (turn .turn .worker) ∙ deque-at-is next ends w
-      ∙ walk-front next (getD ends w 0) (getD ends (size-at w) 0) (work-turn q some .filled) in
+  pub cycled-work : {p′ : Parts} → 0 < getD (p .ends) (size-at w) 0 → Worked p m w p′ → Cycled p m w choice p′ (after-work m)
+  cycled-work some r =
+      let front = getD (p .ends) (front-at w) 0 in
+      let size = getD (p .ends) (size-at w) 0 in
       cycled
-      (r .shows ∙ sym (works plan w choice e (getD ends w 0) (walk next (getD next (getD ends w 0) 0) (getD ends (size-at w) 0 - 1)) own))
+      (r .shows
+      ∙ sym (works its-graph w choice e front (walk (p .next) (getD (p .next) front 0) (size - 1))
+      (own-tasks ∙ walk-front (p .next) front size some)))
+      (r .same-graph)
       (r .sizes)
       (r .kept)
-      (rw (r .numbers) (record {
-        same-tasks = refl;
-        same-workers = refl;
-        works-grew = omega arith;
-        mugs-grew = omega arith;
-        steals-grew = omega arith;
-        successes-grew = omega arith;
-        usage-grew = omega arith;
-      }))
-      (rw (r .numbers) refl)
+      (search needs)
+      refl
 
-  -- ---- mug and steal: the worker's own deque is empty
+  -- ---- no work: the worker's own deque is empty, and only the deques' ends move
 
-  own-empty : {d : Deque} → d ≡ ends-at ends w → d .size ≤ 0 → deque-of e w ≡ []
+  pub own-empty : getD (p .ends) (size-at w) 0 ≡ 0 → deque-of e w ≡ []
   unfolding walk
-  own-empty q none =
-      let size : getD ends (size-at w) 0 ≡ 0 = omega (arith, ap (λ (d : Deque). d .size) q) in
-      worker-at next ends (m .workers) w (turn .turn .worker) ∙ deque-at-is next ends w ∙ rw size
+  own-empty none = own-tasks ∙ rw none
 
-  pub mug-turn : 0 < m .waiting → MugTurn ends m w
-  mug-turn some =
-      record {
-        places = sound .sizes .places;
-        worker = turn .turn .worker;
-        workers = few-workers;
-        head = sound .kept .head-in-ring;
-        waits = some;
-        room = turn .turn .room;
-      }
-
-  pub cycled-mug : {d : Deque} {ends′ : List ℕ} {m′ : Numbers} → d ≡ ends-at ends w → d .size ≤ 0 → 0 < m .waiting → Mugged ends m w ends′ m′ →
-      Cycled first second pending next ends m w choice pending next ends′ m′
-  cycled-mug q none some r =
-      let more : m .waiting ≡ suc (m .waiting - 1) = omega arith in
-      let waiting : e .muggable ≡ deque-at next ends (64 + m .head) ∷ muggable-view next ends ((m .head + 1) % 64) (m .waiting - 1) =
-      ap (muggable-view next ends (m .head)) more
-      ∙ ring-tail next ends (m .head) ((m .head + 1) % 64) (m .waiting - 1) (sound .kept .head-in-ring) refl in
+  pub cycled-idle : {ends : List ℕ} {m′ : Numbers} → view (with-ends p ends) m′ ≡ cycle its-graph w choice e → length ends ≡ 256 →
+      m′ .done ≡ m .done → m′ .head < 64 → Grown 1 m m′ → m′ .waiting + m′ .mugs ≡ m .waiting + m .mugs →
+      Cycled p m w choice (with-ends p ends) m′
+  cycled-idle shows places done inside grown mugged =
+      let s = sound .sizes in
       cycled
-      (r .shows pending next
-      ∙ sym (mugs plan w choice e (deque-at next ends (64 + m .head)) (muggable-view next ends ((m .head + 1) % 64) (m .waiting - 1)) (own-empty q none) waiting))
-      (record { numbers = sound .sizes .numbers; links = sound .sizes .links; places = r .places })
-      (rw (r .numbers) (record {
-        pending-right = sound .kept .pending-right;
-        done-right = sound .kept .done-right;
-        head-in-ring = omega arith;
-      }))
-      (rw (r .numbers) (record {
-        same-tasks = refl;
-        same-workers = refl;
-        works-grew = omega arith;
-        mugs-grew = omega arith;
-        steals-grew = omega arith;
-        successes-grew = omega arith;
-        usage-grew = omega arith;
-      }))
-      (rw (r .numbers) (omega arith))
-
-  -- the tasks of a worker's deque are tasks of the arrays
-  links-inside : Reachable next (getD ends choice 0) (getD ends (size-at choice) 0)
-  links-inside =
-      every-from (λ t. ltb t 1024) (walk next (getD ends choice 0) (getD ends (size-at choice) 0))
-      (λ t mem.
-      let here : deque-of e choice ≡ walk next (getD ends choice 0) (getD ends (size-at choice) 0) =
-      worker-at next ends (m .workers) choice (turn .chosen) ∙ deque-at-is next ends choice in
-      lt-ltb t 1024
-      (omega (arith, worker-has (sound .lawful .placed) t choice (rw here mem) .of-plan, tasks-shown first second (m .tasks), sound .few-tasks)))
-
-  pub steal-turn : StealTurn next ends m w choice
-  steal-turn =
-      record {
-        places = sound .sizes .places;
-        worker = turn .turn .worker;
-        chosen = turn .chosen;
-        workers = few-workers;
-        links = links-inside;
-        room = turn .turn .room;
-      }
-
-  no-muggable : m .waiting ≤ 0 → e .muggable ≡ []
-  no-muggable none = let zero-wait : m .waiting ≡ 0 = omega arith in ap (muggable-view next ends (m .head)) zero-wait ∙ none-shown next ends (m .head)
-
-  pub cycled-steal : {d : Deque} {ends′ : List ℕ} {m′ : Numbers} → d ≡ ends-at ends w → d .size ≤ 0 → m .waiting ≤ 0 →
-      (StealTurn next ends m w choice → Stolen next ends m w choice ends′ m′) → Cycled first second pending next ends m w choice pending next ends′ m′
-  cycled-steal q none idle promised =
-      let r = promised steal-turn in
-      let counted = r .numbers .2 in
-      let few = r .numbers .1 in
-      let here : deque-of e choice ≡ deque-at next ends choice = worker-at next ends (m .workers) choice (turn .chosen) in
-      cycled
-      (r .shows plan pending
-      ∙ sym (steals plan w choice e (own-empty q none) (no-muggable idle) ∙ ap (λ (v : List ℕ). performed plan w (steal-cycle choice v) e) here))
-      (record { numbers = sound .sizes .numbers; links = sound .sizes .links; places = r .places })
-      (rw counted (record {
-        pending-right = sound .kept .pending-right;
-        done-right = sound .kept .done-right;
-        head-in-ring = sound .kept .head-in-ring;
-      }))
-      (rw counted (record {
-        same-tasks = refl;
-        same-workers = refl;
-        works-grew = omega arith;
-        mugs-grew = omega arith;
-        steals-grew = omega arith;
-        successes-grew = omega arith;
-        usage-grew = omega arith;
-      }))
-      (rw counted refl)
+      shows
+      (record { same-first = refl; same-second = refl })
+      (record { firsts = s .firsts; seconds = s .seconds; links = s .links; numbers = s .numbers; places = places })
+      (record {
+        pending-right = rw (grown .same-tasks) (sound .kept .pending-right);
+        done-right = rw (grown .same-tasks) (done ∙ sound .kept .done-right);
+        head-in-ring = inside;
+      })
+      grown
+      mugged

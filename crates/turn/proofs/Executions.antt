@@ -6,8 +6,8 @@ use Prim.Native.Nat.{ℕ}
 use native.Mathlib.Numerals.{add-one}
 use native.Mathlib.Nat.{add-comm}
 use Rattle.model.specs.Machine.{Execution, Counts, counted-work, counted-mug, counted-steal}
-use Rattle.deque.specs.declared.Numbers.{Numbers}
-use Rattle.deque.specs.View.{counts-view}
+use Rattle.memory.specs.Words.{Numbers}
+use Rattle.memory.specs.View.{counts-view}
 use Rattle.turn.specs.Turns.{after-work, after-mug, after-steal}
 
 pub same-execution : {worked worked′ : List Bool} {deques deques′ muggable muggable′ : List (List ℕ)} {counts counts′ : Counts} →
@@ -23,4 +23,4 @@ pub mug-counted : (m : Numbers) → counts-view (after-mug m) ≡ counted-mug (c
 mug-counted m = simp add-one
 
 pub steal-counted : (success : ℕ) (m : Numbers) → counts-view (after-steal success m) ≡ counted-steal success (counts-view m)
-steal-counted success m = rw (add-one (m .steals .0), add-comm (m .successes) success)
+steal-counted success m = rw (add-one (m .steals), add-comm (m .successes) success)

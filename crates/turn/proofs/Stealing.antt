@@ -1,128 +1,148 @@
 -- A steal cycle: of a deque of two or more tasks the front part stays and the back part becomes the thief's deque; of any other nothing
 -- moves.
-use mathlib.Core.Path.{_≡_, refl, sym, ap, subst, _∙_}
-use mathlib.Core.Bool.{true, false}
+use mathlib.Core.Path.{_≡_, refl, sym, ap, _∙_}
 use mathlib.Core.List.{List, []}
-use Prim.Native.Nat.{ℕ, zero, suc, _+_, _-_, _≤_, _<_}
+use Prim.Native.Nat.{ℕ, _+_, _-_, _≤_, _<_}
 use native.Mathlib.Omega.{arith}
-use lib.Dec.{leb, ltb}
+use lib.Dec.{ltb}
 use lib.ListN.{length, getD, set, drop}
-use borrow.Author.Tests.{le-leb, lt-leb}
-use Rattle.model.specs.Tests.{every}
-use Rattle.model.specs.Machine.{stolen-count, successful-steal, failed-steal, left-by-steal, taken-by-steal}
-use Rattle.laws.proofs.Lists.{and-left, and-right, both}
-use Rattle.deque.specs.declared.Deque.{Deque}
-use Rattle.deque.specs.declared.Numbers.{Numbers}
-use Rattle.deque.specs.View.{walk, size-at, ends-at, put-deque, deque-at, deques-view, muggable-view}
-use Rattle.deque.specs.Steps.{link-after, Reachable}
-use Rattle.deque.proofs.Walks.{length-walk, take-walk, drop-walk}
-use Rattle.deque.proofs.Views.{deque-at-is, deque-length, worker-at, put-places, put-deques, put-muggable}
-use Rattle.turn.specs.Turns.{after-steal, StealTurn, Stolen}
+use borrow.Author.Needs.{needs}
+use borrow.Author.Tests.{lt-ltb}
+use Rattle.model.specs.Tests.{below}
+use Rattle.model.specs.Machine.{deque-of, stolen-count, successful-steal, failed-steal, left-by-steal, taken-by-steal}
+use Rattle.lists.proofs.Lists.{every-from}
+use Rattle.laws.proofs.Placement.{worker-has}
+use Rattle.memory.specs.declared.Deque.{Deque}
+use Rattle.memory.specs.Parts.{Parts}
+use Rattle.memory.specs.Words.{Numbers}
+use Rattle.memory.specs.Graphs.{graph}
+use Rattle.memory.specs.View.{walk, front-at, size-at, ends-at, put-deque, deques-view, muggable-view, view}
+use Rattle.memory.proofs.Walks.{length-walk}
+use Rattle.memory.proofs.Views.{deque-at-is, worker-at, tasks-shown, put-places, put-deques, put-muggable}
+use Rattle.deque.specs.Links.{link-after, Robbable, left-of, taken-of, robbed}
+use Rattle.deque.proofs.Walks.{take-walk, drop-walk}
+use Rattle.turn.specs.Turns.{after-steal, ChoiceTurn, Cycled}
 use Rattle.turn.proofs.Executions.{same-execution, steal-counted}
+use Rattle.turn.proofs.Cycling.{robs, fails, few-workers, worker-place, choice-place, own-empty, cycled-idle}
 
--- links that can be followed to the back can be followed part of the way
-pub reachable-part : (next : List ℕ) (front a b : ℕ) → a ≤ b → Reachable next front b → Reachable next front a
-unfolding walk every
-reachable-part next front zero b h r = refl
-reachable-part next front (suc a) zero h r = absurd (omega arith)
-reachable-part next front (suc a) (suc b) h r =
-    both (ltb front 1024) (every (λ t. ltb t 1024) (walk next (getD next front 0) a))
-    (and-left (ltb front 1024) (every (λ t. ltb t 1024) (walk next (getD next front 0) b)) r)
-    (reachable-part next (getD next front 0) a b (omega arith)
-    (and-right (ltb front 1024) (every (λ t. ltb t 1024) (walk next (getD next front 0) b)) r))
+none-shown : (next ends : List ℕ) (head waiting : ℕ) → waiting ≡ 0 → muggable-view next ends head waiting ≡ []
+unfolding muggable-view below
+none-shown next ends head waiting none = rw none
 
-module _ {next ends : List ℕ} {m : Numbers} {w choice : ℕ} (t : StealTurn next ends m w choice) where
-  -- "If not, nothing moves."
-  pub stolen-nothing : {d : Deque} {m′ : Numbers} → d ≡ ends-at ends choice → d .size < 2 → m′ ≡ after-steal 0 m →
-      Stolen next ends m w choice ends m′
-  unfolding failed-steal
-  stolen-nothing e few n =
-      let size : getD ends (size-at choice) 0 < 2 = rw (ap (λ (x : Deque). x .size) e) at few in
-      let short : leb 2 (length (deque-at next ends choice)) ≡ false = lt-leb 2 (length (deque-at next ends choice)) (rw (deque-length next ends choice) size) in
-      rw n
-      (record {
-        places = t .places;
-        numbers = (0, omega arith, refl);
-        shows = λ plan pending. rw short (same-execution refl refl refl (steal-counted 0 m));
-      })
-
+module _ {p : Parts} {m : Numbers} {w choice : ℕ} (turn : ChoiceTurn p m w choice) where
   abbrev front : ℕ
-  front = getD ends choice 0
+  front = getD (p .ends) (front-at choice) 0
 
   abbrev size : ℕ
-  size = getD ends (size-at choice) 0
+  size = getD (p .ends) (size-at choice) 0
 
-  victim-tasks : getD (deques-view next ends (m .workers)) choice [] ≡ walk next front size
-  victim-tasks = worker-at next ends (m .workers) choice (t .chosen) ∙ deque-at-is next ends choice
+  abbrev victim : List ℕ
+  victim = deque-of (view p m) choice
 
-  -- what a steal of so many tasks leaves, and what it takes
-  module _ (taken : ℕ) (right : taken ≡ stolen-count size) (part : taken ≤ size) where
-    some : stolen-count size ≤ size
-    some = rw right at part
+  victim-tasks : victim ≡ walk (p .next) front size
+  victim-tasks = worker-at (p .next) (p .ends) (m .workers) choice (turn .chosen) ∙ deque-at-is (p .next) (p .ends) choice
 
-    stays : walk next front (size - taken) ≡ left-by-steal (getD (deques-view next ends (m .workers)) choice [])
-    unfolding left-by-steal
-    stays = rw (victim-tasks, length-walk next front size, right) (sym (take-walk next front (size - stolen-count size) size (omega arith)))
+  victim-size : length victim ≡ size
+  victim-size = ap length victim-tasks ∙ length-walk (p .next) front size
 
-    goes : walk next (link-after next front (size - taken)) taken ≡ taken-by-steal (getD (deques-view next ends (m .workers)) choice [])
-    unfolding taken-by-steal
-    goes =
-        let whole : (size - stolen-count size) + stolen-count size ≡ size = omega (arith, some) in
-        rw (victim-tasks, length-walk next front size, right)
-        (sym (drop-walk next front (size - stolen-count size) (stolen-count size))
-        ∙ ap (λ (n : ℕ). drop (size - stolen-count size) (walk next front n)) whole)
+  -- "If not, nothing moves."
+  pub cycled-nothing : getD (p .ends) (size-at w) 0 ≡ 0 → m .waiting ≡ 0 → size < 2 → Cycled p m w choice p (after-steal 0 m)
+  unfolding failed-steal
+  cycled-nothing empty none few =
+      cycled-idle turn
+      (same-execution refl refl refl (steal-counted 0 m)
+      ∙ sym (fails (graph p (m .tasks)) w choice (view p m) (own-empty turn empty)
+      (none-shown (p .next) (p .ends) (m .head) (m .waiting) none) (rw victim-size few)))
+      (turn .turn .sound .sizes .places)
+      refl
+      (turn .turn .sound .kept .head-in-ring)
+      (search needs)
+      refl
 
-  -- the steps of a successful steal from the deque d
-  pub record Theft (d : Deque) (taken found : ℕ) (ends₁ ends₂ : List ℕ) (m′ : Numbers) : Type 0 where
-    pub many : 2 ≤ d .size
-    pub right : taken ≡ stolen-count (d .size)
-    pub part : taken ≤ d .size
-    pub led : found ≡ link-after next (d .front) (d .size - taken)
-    pub robbed : ends₁ ≡ put-deque ends choice (record { front = d .front; size = d .size - taken })
-    pub given : ends₂ ≡ put-deque ends₁ w (record { front = found; size = taken })
-    pub counted : m′ ≡ after-steal 1 m
+  -- ---- two or more tasks
 
-  module _ {taken found : ℕ} {ends₁ ends₂ : List ℕ} {m′ : Numbers} (s : Theft (ends-at ends choice) taken found ends₁ ends₂ m′) where
-    place : choice < 128
-    place = omega (arith, t .chosen, t .workers)
-
-    robbed-places : length ends₁ ≡ 256
-    robbed-places = rw (s .robbed) (put-places next ends (t .places) choice place (record { front = front; size = size - taken }))
-
-    deques-after : deques-view next ends₂ (m .workers)
-        ≡ set (set (deques-view next ends (m .workers)) choice (left-by-steal (getD (deques-view next ends (m .workers)) choice []))) w
-        (taken-by-steal (getD (deques-view next ends (m .workers)) choice []))
-    deques-after =
-        ap (λ (l : List ℕ). deques-view next l (m .workers)) (s .given)
-        ∙ put-deques next ends₁ robbed-places w (omega (arith, t .worker, t .workers)) (record { front = found; size = taken }) (m .workers) (t .worker) (t .workers)
-        ∙ rw (s .led, goes taken (s .right) (s .part))
-        (ap (λ (l : List (List ℕ)). set l w (taken-by-steal (getD (deques-view next ends (m .workers)) choice [])))
-        (ap (λ (l : List ℕ). deques-view next l (m .workers)) (s .robbed)
-        ∙ put-deques next ends (t .places) choice place (record { front = front; size = size - taken }) (m .workers) (t .chosen) (t .workers)
-        ∙ ap (set (deques-view next ends (m .workers)) choice) (stays taken (s .right) (s .part))))
-
-    muggable-after : muggable-view next ends₂ (m .head) (m .waiting) ≡ muggable-view next ends (m .head) (m .waiting)
-    muggable-after =
-        ap (λ (l : List ℕ). muggable-view next l (m .head) (m .waiting)) (s .given)
-        ∙ put-muggable next ends₁ robbed-places w (omega (arith, t .worker, t .workers)) (record { front = found; size = taken }) (omega (arith, t .worker, t .workers)) (m .head) (m .waiting)
-        ∙ ap (λ (l : List ℕ). muggable-view next l (m .head) (m .waiting)) (s .robbed)
-        ∙ put-muggable next ends (t .places) choice place (record { front = front; size = size - taken }) (omega (arith, t .chosen, t .workers)) (m .head) (m .waiting)
-
-    stolen-at : Stolen next ends m w choice ends₂ m′
-    unfolding successful-steal
-    stolen-at =
-        let long : leb 2 (length (deque-at next ends choice)) ≡ true = le-leb 2 (length (deque-at next ends choice)) (rw (deque-length next ends choice) (s .many)) in
+  module _ (many : 2 ≤ size) where
+    -- the tasks of a worker's deque are tasks of the memory
+    pub robbable : Robbable p w choice
+    robbable =
         record {
-          places = rw (s .given) (put-places next ends₁ robbed-places w (omega (arith, t .worker, t .workers)) (record { front = found; size = taken }));
-          numbers = (1, omega arith, s .counted);
-          shows = λ plan pending. rw (long, s .counted) (same-execution refl deques-after muggable-after (steal-counted 1 m));
+          thief-place = omega (arith, worker-place turn);
+          victim-place = omega (arith, choice-place turn);
+          two-or-more = many;
+          links =
+              every-from (λ t. ltb t 1024) (walk (p .next) front size)
+              (λ t here.
+              let sound = turn .turn .sound in
+              lt-ltb t 1024
+              (omega (
+                arith,
+                worker-has (sound .lawful .placed) t choice (rw victim-tasks here) .of-plan,
+                tasks-shown (p .first) (p .second) (m .tasks),
+                sound .few-tasks,
+              )));
         }
 
-  pub stolen : {d : Deque} {taken found : ℕ} {ends₁ ends₂ : List ℕ} {m′ : Numbers} → d ≡ ends-at ends choice → Theft d taken found ends₁ ends₂ m′ →
-      Stolen next ends m w choice ends₂ m′
-  stolen {taken = taken} {found = found} {ends₁ = ends₁} {ends₂ = ends₂} {m′ = m′} e s =
-      stolen-at (subst (λ (d : Deque). Theft d taken found ends₁ ends₂ m′) e s)
+    -- what a steal leaves, and what it takes
+    abbrev left : Deque
+    left = left-of (ends-at (p .ends) choice)
 
-  -- the walk to the split stays within the chosen deque
-  pub walk-within : {d : Deque} → d ≡ ends-at ends choice → (steps : ℕ) → steps ≤ d .size → Reachable next (d .front) steps
-  walk-within e steps h = rw e (reachable-part next front steps size (rw e at h) (t .links))
+    abbrev taken : Deque
+    taken = taken-of (p .next) (ends-at (p .ends) choice)
+
+    stays : walk (p .next) front (size - stolen-count size) ≡ left-by-steal victim
+    unfolding left-by-steal
+    stays =
+        rw (victim-tasks, length-walk (p .next) front size)
+        (sym (take-walk (p .next) front (size - stolen-count size) size (omega arith)))
+
+    goes : walk (p .next) (link-after (p .next) front (size - stolen-count size)) (stolen-count size) ≡ taken-by-steal victim
+    unfolding taken-by-steal
+    goes =
+        let whole : (size - stolen-count size) + stolen-count size ≡ size = omega arith in
+        rw (victim-tasks, length-walk (p .next) front size)
+        (sym (drop-walk (p .next) front (size - stolen-count size) (stolen-count size))
+        ∙ ap (λ (n : ℕ). drop (size - stolen-count size) (walk (p .next) front n)) whole)
+
+    -- ---- the ends of the robbed deque, then of the thief's
+
+    abbrev ends₁ : List ℕ
+    ends₁ = put-deque (p .ends) choice left
+
+    abbrev ends₂ : List ℕ
+    ends₂ = put-deque ends₁ w taken
+
+    abbrev places : length (p .ends) ≡ 256
+    places = turn .turn .sound .sizes .places
+
+    there : choice < 128
+    there = omega (arith, choice-place turn)
+
+    here : w < 128
+    here = omega (arith, worker-place turn)
+
+    places₁ : length ends₁ ≡ 256
+    places₁ = put-places (p .next) (p .ends) places choice there left
+
+    deques-after : deques-view (p .next) ends₂ (m .workers)
+        ≡ set (set (deques-view (p .next) (p .ends) (m .workers)) choice (left-by-steal victim)) w (taken-by-steal victim)
+    deques-after =
+        put-deques (p .next) ends₁ places₁ w here taken (m .workers) (turn .turn .worker) (few-workers turn)
+        ∙ rw (goes, put-deques (p .next) (p .ends) places choice there left (m .workers) (turn .chosen) (few-workers turn), stays)
+
+    muggable-after : muggable-view (p .next) ends₂ (m .head) (m .waiting) ≡ muggable-view (p .next) (p .ends) (m .head) (m .waiting)
+    muggable-after =
+        put-muggable (p .next) ends₁ places₁ w here taken (worker-place turn) (m .head) (m .waiting)
+        ∙ put-muggable (p .next) (p .ends) places choice there left (choice-place turn) (m .head) (m .waiting)
+
+    pub cycled-theft : getD (p .ends) (size-at w) 0 ≡ 0 → m .waiting ≡ 0 → Cycled p m w choice (robbed p w choice) (after-steal 1 m)
+    unfolding successful-steal
+    cycled-theft empty none =
+        cycled-idle turn
+        (same-execution refl deques-after muggable-after (steal-counted 1 m)
+        ∙ sym (robs (graph p (m .tasks)) w choice (view p m) (own-empty turn empty)
+        (none-shown (p .next) (p .ends) (m .head) (m .waiting) none) (rw victim-size many)))
+        (put-places (p .next) ends₁ places₁ w here taken)
+        refl
+        (turn .turn .sound .kept .head-in-ring)
+        (search needs)
+        refl

@@ -1,69 +1,59 @@
--- The numbers of a tick's beginning with a tally: a cycle more in the tally is a cycle more in the numbers.
+-- The numbers with a tally: a cycle more in the tally is a cycle more in the numbers, and words that take the tally have them.
 use mathlib.Core.Path.{_≡_, refl}
-use Prim.Native.Nat.{ℕ, _+_, _-_, _%_, _<_}
+use mathlib.Core.List.{List}
+use Prim.Native.Nat.{ℕ, _+_, _-_, _%_, _≤_, _<_}
 use native.Mathlib.Omega.{arith}
-use Rattle.cycle_counts.specs.declared.WorkCycles.{WorkCycles}
-use Rattle.cycle_counts.specs.declared.MugCycles.{MugCycles}
-use Rattle.cycle_counts.specs.declared.StealCycles.{StealCycles}
-use Rattle.deque.specs.declared.Numbers.{Numbers}
-use Rattle.deque.specs.Sound.{Room}
+use lib.ListN.{length, set}
+use Rattle.memory.specs.Words.{word-count, word, Numbers, numbers-in}
+use Rattle.memory.specs.Sound.{Room}
+use Rattle.memory.proofs.Words.{by-words}
 use Rattle.turn.specs.declared.Tally.{Tally}
-use Rattle.turn.specs.Turns.{after-work, after-mug, after-steal, no-tally, add-work, add-mug, add-steal, numbers-at, cycle-limit, Growing}
+use Rattle.turn.specs.Turns.{after-work, after-mug, after-steal, no-tally, add-work, add-mug, numbers-at}
+use Rattle.turn.specs.Turns.{cycle-limit, Growing}
 
-pub none-added : (m : Numbers) → m .head < 64 → m ≡ numbers-at m no-tally
+pub none-added : (m : Numbers) → m .head < 64 → m ≡ numbers-at m 0 no-tally
 none-added m inside =
     let plus : (n : ℕ) → n + 0 ≡ n = λ n. omega arith in
     let minus : (n : ℕ) → n - 0 ≡ n = λ n. omega arith in
     let here : (m .head + 0) % 64 ≡ m .head = omega arith in
-    rw (here, plus (m .done), plus (m .works .0), plus (m .mugs .0), plus (m .steals .0), plus (m .successes), plus (m .usage), minus (m .waiting)) refl
+    rw (here, plus (m .done), plus (m .works), plus (m .mugs), plus (m .steals), plus (m .usage), minus (m .waiting)) refl
 
-pub work-added : (m : Numbers) (t : Tally) → numbers-at m (add-work t) ≡ after-work (numbers-at m t)
-work-added m t =
-    let done : m .done + (t .works .0 + 1) ≡ (m .done + t .works .0) + 1 = omega arith in
-    let works : m .works .0 + (t .works .0 + 1) ≡ (m .works .0 + t .works .0) + 1 = omega arith in
-    let usage : m .usage + ((t .works .0 + 1) + t .mugs .0) ≡ (m .usage + (t .works .0 + t .mugs .0)) + 1 = omega arith in
-    rw (done, works, usage) refl
+module _ (m : Numbers) (w : ℕ) (t : Tally) where
+  pub work-added : numbers-at m (w + 1) (add-work t) ≡ after-work (numbers-at m w t)
+  work-added =
+      let done : numbers-at m (w + 1) (add-work t) .done ≡ after-work (numbers-at m w t) .done = omega arith in
+      let works : numbers-at m (w + 1) (add-work t) .works ≡ after-work (numbers-at m w t) .works = omega arith in
+      let steals : numbers-at m (w + 1) (add-work t) .steals ≡ after-work (numbers-at m w t) .steals = omega arith in
+      let usage : numbers-at m (w + 1) (add-work t) .usage ≡ after-work (numbers-at m w t) .usage = omega arith in
+      rw (done, works, steals, usage) refl
 
-pub mug-added : (m : Numbers) (t : Tally) → numbers-at m (add-mug t) ≡ after-mug (numbers-at m t)
-mug-added m t =
-    let mugs : m .mugs .0 + (t .mugs .0 + 1) ≡ (m .mugs .0 + t .mugs .0) + 1 = omega arith in
-    let usage : m .usage + (t .works .0 + (t .mugs .0 + 1)) ≡ (m .usage + (t .works .0 + t .mugs .0)) + 1 = omega arith in
-    let head : (m .head + (t .mugs .0 + 1)) % 64 ≡ ((m .head + t .mugs .0) % 64 + 1) % 64 = omega arith in
-    let waiting : m .waiting - (t .mugs .0 + 1) ≡ (m .waiting - t .mugs .0) - 1 = omega arith in
-    rw (mugs, usage, head, waiting) refl
+  pub mug-added : numbers-at m (w + 1) (add-mug t) ≡ after-mug (numbers-at m w t)
+  mug-added =
+      let mugs : numbers-at m (w + 1) (add-mug t) .mugs ≡ after-mug (numbers-at m w t) .mugs = omega arith in
+      let steals : numbers-at m (w + 1) (add-mug t) .steals ≡ after-mug (numbers-at m w t) .steals = omega arith in
+      let usage : numbers-at m (w + 1) (add-mug t) .usage ≡ after-mug (numbers-at m w t) .usage = omega arith in
+      let head : numbers-at m (w + 1) (add-mug t) .head ≡ after-mug (numbers-at m w t) .head = omega arith in
+      let waiting : numbers-at m (w + 1) (add-mug t) .waiting ≡ after-mug (numbers-at m w t) .waiting = omega arith in
+      rw (mugs, steals, usage, head, waiting) refl
 
-pub steal-added : (success : ℕ) (m : Numbers) (t : Tally) → numbers-at m (add-steal success t) ≡ after-steal success (numbers-at m t)
-steal-added success m t =
-    let steals : m .steals .0 + (t .steals .0 + 1) ≡ (m .steals .0 + t .steals .0) + 1 = omega arith in
-    let successes : m .successes + (t .successes + success) ≡ (m .successes + t .successes) + success = omega arith in
-    rw (steals, successes) refl
+  -- what is neither is a steal cycle
+  pub steal-added : t .works .0 + t .mugs .0 ≤ w → numbers-at m (w + 1) t ≡ after-steal 0 (numbers-at m w t)
+  steal-added counted =
+      let steals : numbers-at m (w + 1) t .steals ≡ after-steal 0 (numbers-at m w t) .steals = omega arith in
+      let successes : after-steal 0 (numbers-at m w t) .successes ≡ numbers-at m (w + 1) t .successes = omega arith in
+      rw (steals, successes) refl
 
--- each count takes what the tally has of its own kind, and the usage both work and mugs
-pub summed : (m : Numbers) (t : Tally) {worked mugged used : ℕ} {works : WorkCycles} {mugs : MugCycles} {steals : StealCycles} →
-    worked ≡ t .works .0 → mugged ≡ t .mugs .0 → used ≡ t .works .0 + t .mugs .0 →
-    works ≡ numbers-at m t .works → mugs ≡ numbers-at m t .mugs → steals ≡ numbers-at m t .steals →
-    _≡_ {A = Numbers}
-    (record {
-      tasks = m .tasks;
-      workers = m .workers;
-      done = m .done + worked;
-      works = works;
-      mugs = mugs;
-      steals = steals;
-      successes = m .successes + t .successes;
-      usage = m .usage + used;
-      head = (m .head + mugged) % 64;
-      waiting = m .waiting - mugged;
-    })
-    (numbers-at m t)
-summed m t a b c d e f = rw (a, b, c, d, e, f) refl
+-- a success is a word one higher
+pub success-added : (words : List ℕ) (w : ℕ) (t : Tally) → t .works .0 + t .mugs .0 ≤ w → length words ≡ word-count →
+    numbers-at (numbers-in (set words 6 (word words 6 + 1))) (w + 1) t ≡ after-steal 1 (numbers-at (numbers-in words) w t)
+success-added words w t counted =
+    by-words
+    (λ (l : List ℕ). numbers-at (numbers-in (set l 6 (word l 6 + 1))) (w + 1) t ≡ after-steal 1 (numbers-at (numbers-in l) w t))
+    (λ w0 w1 w2 w3 w4 w5 w6 w7 w8 w9 w10 w11 w12 w13 w14 w15 w16 w17.
+    let steals : w5 + ((w + 1) - (t .works .0 + t .mugs .0)) ≡ (w5 + (w - (t .works .0 + t .mugs .0))) + 1 = omega arith in
+    rw steals refl)
+    words
 
 -- sums that can still grow are of tallies that can
-pub growing : (m : Numbers) (t : Tally) → Room cycle-limit (numbers-at m t) → Growing t
-growing m t r =
-    record {
-      works-fit = omega (arith, r .works-fit);
-      mugs-fit = omega (arith, r .mugs-fit);
-      steals-fit = omega (arith, r .steals-fit);
-      successes-fit = omega (arith, r .successes-fit);
-    }
+pub growing : (m : Numbers) (w : ℕ) (t : Tally) → Room cycle-limit (numbers-at m w t) → Growing t
+growing m w t r = record { works-fit = omega (arith, r .works-fit); mugs-fit = omega (arith, r .mugs-fit) }

@@ -1,6 +1,6 @@
--- A tick's cycles: the model's cycles of all workers are those of the workers that are left, from what the arrays show now; and they end
--- where the job is finished.
-use mathlib.Core.Path.{_≡_, refl, sym, ap, subst, _∙_}
+-- A tick's cycles: the model's cycles of all workers are those of the workers that are left, from what memory and words show now; and they
+-- end where the job is finished.
+use mathlib.Core.Path.{_≡_, refl, sym, ap, _∙_}
 use mathlib.Core.Bool.{Bool, true, false}
 use mathlib.Core.List.{List, [], _∷_}
 use Prim.Native.Nat.{ℕ, zero, suc, _+_, _≤_, _<_}
@@ -9,18 +9,26 @@ use native.Mathlib.Numerals.{add-one}
 use lib.Dec.{eqb, ltb}
 use lib.ListN.{length, getD, drop, drop-of-length-le}
 use lib.Seq.{drop-cons}
+use borrow.Author.Needs.{needs}
 use borrow.Author.Tests.{ltb-true, eq-eqb, ne-eqb}
 use Rattle.model.specs.Tests.{every}
-use Rattle.model.specs.Plan.{Plan}
+use Rattle.model.specs.Plan.{Graph}
 use Rattle.model.specs.Machine.{Execution, finished, cycle, cycles}
-use Rattle.laws.proofs.Lists.{and-left, and-right, count-set-at-most}
-use Rattle.deque.specs.declared.Numbers.{Numbers}
-use Rattle.deque.specs.View.{worked-view, graph, view}
-use Rattle.deque.specs.Sound.{Kept, Sound, Room, Within}
-use Rattle.deque.proofs.Views.{workers-shown, flags-shown, all-counted}
+use Rattle.lists.proofs.Tests.{and-left, and-right}
+use Rattle.lists.proofs.Lists.{count-set-at-most}
+use Rattle.memory.specs.Parts.{Parts, parts, SameGraph}
+use Rattle.memory.specs.Words.{Numbers, word, numbers-in, SameTail}
+use Rattle.memory.specs.Graphs.{graph}
+use Rattle.memory.specs.View.{size-at, worked-view, view}
+use Rattle.memory.specs.Sound.{Sound, Room, Grown}
+use Rattle.memory.proofs.Views.{workers-shown, flags-shown, all-counted}
+use Rattle.memory.proofs.Words.{tail-then}
 use Rattle.turn.specs.declared.Tally.{Tally}
-use Rattle.turn.specs.Turns.{no-tally, numbers-at, cycle-limit, Addable, ChoiceTurn, Cycled, TickTurn, Ticked}
-use Rattle.turn.proofs.Tallying.{none-added}
+use Rattle.turn.specs.Turns.{no-tally, add-work, numbers-at, cycle-limit, Addable, Settled, WorkTurn, Worked, ChoiceTurn, Cycled}
+use Rattle.turn.specs.Turns.{SameButSuccesses, IdleTurn, Idled, TickTurn, Ticked}
+use Rattle.turn.proofs.Tallying.{none-added, work-added}
+use Rattle.turn.proofs.Cycling.{cycled-work}
+use Rattle.turn.proofs.Idling.{same-words}
 
 -- what holds of every element holds of the one at a place
 every-place : (test : ℕ → Bool) (xs : List ℕ) (i : ℕ) → every test xs ≡ true → i < length xs → test (getD xs i 0) ≡ true
@@ -31,176 +39,204 @@ every-place test (x ∷ xs) (suc i) h l = every-place test xs i (and-right (test
 
 -- ---- the model's cycles
 
-module _ (plan : Plan) (w : ℕ) (e : Execution) where
-  cycles-none : (choices : List ℕ) → length choices ≡ 0 → cycles plan w choices e ≡ e
+module _ (its-graph : Graph) (w : ℕ) (e : Execution) where
+  cycles-none : (choices : List ℕ) → length choices ≡ 0 → cycles its-graph w choices e ≡ e
   unfolding cycles
   cycles-none [] h = refl
   cycles-none (c ∷ cs) h = absurd (omega arith)
 
-  cycles-ended : (choices : List ℕ) → finished e ≡ true → cycles plan w choices e ≡ e
+  cycles-ended : (choices : List ℕ) → finished e ≡ true → cycles its-graph w choices e ≡ e
   unfolding cycles
   cycles-ended [] h = refl
   cycles-ended (c ∷ cs) h = rw h
 
-  cycles-onward : (c : ℕ) (cs : List ℕ) → finished e ≡ false → cycles plan w (c ∷ cs) e ≡ cycles plan (suc w) cs (cycle plan w c e)
+  cycles-onward : (c : ℕ) (cs : List ℕ) → finished e ≡ false →
+      cycles its-graph w (c ∷ cs) e ≡ cycles its-graph (suc w) cs (cycle its-graph w c e)
   unfolding cycles
   cycles-onward c cs h = rw h
 
 -- "finished" is as many tasks worked as there are
-finished-is : (plan : Plan) (pending next ends : List ℕ) (m : Numbers) → Kept plan pending m →
-    finished (view pending next ends m) ≡ eqb (m .done) (m .tasks)
+finished-is : {p : Parts} {m : Numbers} → Sound p m → finished (view p m) ≡ eqb (m .done) (m .tasks)
 unfolding finished
-finished-is plan pending next ends m kept =
-    all-counted (worked-view pending (m .tasks)) ∙ rw (flags-shown pending (m .tasks), kept .done-right)
+finished-is {p} {m} sound =
+    all-counted (worked-view (p .pending) (m .tasks)) ∙ rw (flags-shown (p .pending) (m .tasks), sound .kept .done-right)
 
-done-of-tasks : {first second pending next ends : List ℕ} {m : Numbers} → Sound first second pending next ends m → m .done ≤ m .tasks
-done-of-tasks {pending = pending} {m = m} sound =
-    omega (arith, sound .kept .done-right, count-set-at-most (worked-view pending (m .tasks)), flags-shown pending (m .tasks))
+done-of-tasks : {p : Parts} {m : Numbers} → Sound p m → m .done ≤ m .tasks
+done-of-tasks {p} {m} sound =
+    omega (arith, sound .kept .done-right, count-set-at-most (worked-view (p .pending) (m .tasks)), flags-shown (p .pending) (m .tasks))
 
 -- ---- frames
 
-pub within-none : (m : Numbers) → Within 0 m m
-within-none m =
+grown-none : (m : Numbers) → Grown 0 m m
+grown-none m = search needs
+
+grown-then : {a b : ℕ} {m m′ m″ : Numbers} → Grown a m m′ → Grown b m′ m″ → Grown (a + b) m m″
+grown-then f g = search needs
+
+grown-more : {a b : ℕ} {m m′ : Numbers} → a ≤ b → Grown a m m′ → Grown b m m′
+grown-more h f = search needs
+
+room-grown : {most more limit : ℕ} {m m′ : Numbers} → Room most m → Grown more m m′ → most + more ≤ limit → Room limit m′
+room-grown r f h = search needs
+
+words-then : {words words′ words″ : List ℕ} → SameButSuccesses words words′ → SameButSuccesses words′ words″ → SameButSuccesses words words″
+words-then f g =
     record {
-      same-tasks = refl;
-      same-workers = refl;
-      works-grew = omega arith;
-      mugs-grew = omega arith;
-      steals-grew = omega arith;
-      successes-grew = omega arith;
-      usage-grew = omega arith;
+      same-length = g .same-length ∙ f .same-length;
+      same-others = λ place ne. g .same-others place ne ∙ f .same-others place ne;
     }
 
-pub within-then : {a b : ℕ} {m m′ m″ : Numbers} → Within a m m′ → Within b m′ m″ → Within (a + b) m m″
-within-then f g =
-    record {
-      same-tasks = g .same-tasks ∙ f .same-tasks;
-      same-workers = g .same-workers ∙ f .same-workers;
-      works-grew = omega (arith, f .works-grew, g .works-grew);
-      mugs-grew = omega (arith, f .mugs-grew, g .mugs-grew);
-      steals-grew = omega (arith, f .steals-grew, g .steals-grew);
-      successes-grew = omega (arith, f .successes-grew, g .successes-grew);
-      usage-grew = omega (arith, f .usage-grew, g .usage-grew);
-    }
-
-pub within-more : {a b : ℕ} {m m′ : Numbers} → a ≤ b → Within a m m′ → Within b m m′
-within-more h f =
-    record {
-      same-tasks = f .same-tasks;
-      same-workers = f .same-workers;
-      works-grew = omega (arith, f .works-grew);
-      mugs-grew = omega (arith, f .mugs-grew);
-      steals-grew = omega (arith, f .steals-grew);
-      successes-grew = omega (arith, f .successes-grew);
-      usage-grew = omega (arith, f .usage-grew);
-    }
-
-room-within : {most more : ℕ} {m m′ : Numbers} → Room most m → Within more m m′ → Room (most + more) m′
-room-within r f =
-    record {
-      works-fit = omega (arith, r .works-fit, f .works-grew);
-      mugs-fit = omega (arith, r .mugs-fit, f .mugs-grew);
-      steals-fit = omega (arith, r .steals-fit, f .steals-grew);
-      successes-fit = omega (arith, r .successes-fit, f .successes-grew);
-      usage-fits = omega (arith, r .usage-fits, f .usage-grew);
-    }
-
-room-more : {most more : ℕ} {m : Numbers} → most ≤ more → Room most m → Room more m
-room-more h r =
-    record {
-      works-fit = omega (arith, r .works-fit);
-      mugs-fit = omega (arith, r .mugs-fit);
-      steals-fit = omega (arith, r .steals-fit);
-      successes-fit = omega (arith, r .successes-fit);
-      usage-fits = omega (arith, r .usage-fits);
-    }
+words-tail : {words words′ : List ℕ} → SameButSuccesses words words′ → SameTail words words′
+words-tail f = record { same-length = f .same-length; same-from = λ place h. f .same-others place (λ e. omega arith) }
 
 -- ---- a tick under way
 
 -- the first i workers have had their cycles
-pub record Underway (first second pending next ends : List ℕ) (m : Numbers) (choices pending′ next′ ends′ : List ℕ) (m′ : Numbers) (i : ℕ) : Type 0 where
+pub record Underway (memory words choices memory′ words′ : List ℕ) (t : Tally) (i : ℕ) : Type 0 where
   pub part : i ≤ length choices
-  pub shows : cycles (graph first second (m .tasks)) 0 choices (view pending next ends m)
-      ≡ cycles (graph first second (m .tasks)) i (drop i choices) (view pending′ next′ ends′ m′)
-  pub sound : Sound first second pending′ next′ ends′ m′
-  pub within : Within i m m′
-  pub mugged : m′ .waiting + m′ .mugs .0 ≡ m .waiting + m .mugs .0
+  pub shows : cycles (graph (parts memory) (numbers-in words .tasks)) 0 choices (view (parts memory) (numbers-in words))
+      ≡ cycles (graph (parts memory) (numbers-in words .tasks)) i (drop i choices) (view (parts memory′) (numbers-at (numbers-in words′) i t))
+  pub sound : Sound (parts memory′) (numbers-at (numbers-in words′) i t)
+  pub grown : Grown i (numbers-in words) (numbers-at (numbers-in words′) i t)
+  pub mugged : numbers-at (numbers-in words′) i t .waiting + numbers-at (numbers-in words′) i t .mugs
+      ≡ numbers-in words .waiting + numbers-in words .mugs
+  pub same-graph : SameGraph (parts memory) (parts memory′)
+  pub same-words : SameButSuccesses words words′
+  pub counted : t .works .0 + t .mugs .0 ≤ i
 
-module _ {first second pending next ends : List ℕ} {m : Numbers} {choices : List ℕ} (tick : TickTurn first second pending next ends m choices) where
-  pub begin : Underway first second pending next ends m choices pending next ends (numbers-at m no-tally) 0
+module _ {memory words choices : List ℕ} (tick : TickTurn memory words choices) where
+  abbrev its-graph : Graph
+  its-graph = graph (parts memory) (numbers-in words .tasks)
+
+  pub begin : Underway memory words choices memory words no-tally 0
   begin =
-      subst (λ (m′ : Numbers). Underway first second pending next ends m choices pending next ends m′ 0) (none-added m (tick .sound .kept .head-in-ring))
-      (record { part = omega arith; shows = refl; sound = tick .sound; within = within-none m; mugged = refl })
+      let same = none-added (numbers-in words) (tick .sound .kept .head-in-ring) in
+      record {
+        part = omega arith;
+        shows = ap (λ (m : Numbers). cycles its-graph 0 choices (view (parts memory) m)) same;
+        sound = rw (← same) (tick .sound);
+        grown = rw (← same) (grown-none (numbers-in words));
+        mugged = omega arith;
+        same-graph = record { same-first = refl; same-second = refl };
+        same-words = same-words words;
+        counted = omega arith;
+      }
 
-  pub some-left : m .done ≤ m .tasks
+  pub some-left : word words 2 ≤ word words 0
   some-left = done-of-tasks (tick .sound)
 
   pub few-choices : length choices ≤ 64
-  few-choices = omega (arith, tick .one-each, tick .sound .lawful .bounded .workers, workers-shown next ends (m .workers))
+  few-choices =
+      let shown = workers-shown (parts memory .next) (parts memory .ends) (numbers-in words .workers) in
+      omega (arith, tick .one-each, tick .sound .lawful .bounded .workers)
 
-  module _ {pending′ next′ ends′ : List ℕ} {m′ : Numbers} {i : ℕ} (u : Underway first second pending next ends m choices pending′ next′ ends′ m′ i) where
-    abbrev plan : Plan
-    plan = graph first second (m .tasks)
+  module _ {memory′ words′ : List ℕ} {t : Tally} {i : ℕ} (u : Underway memory words choices memory′ words′ t i) where
+    abbrev m′ : Numbers
+    m′ = numbers-at (numbers-in words′) i t
 
     abbrev e : Execution
-    e = view pending′ next′ ends′ m′
+    e = view (parts memory′) m′
 
-    done-is : finished e ≡ eqb (m′ .done) (m′ .tasks)
-    done-is = finished-is (graph first second (m′ .tasks)) pending′ next′ ends′ m′ (u .sound .kept)
+    sized : length words′ ≡ 18
+    sized = u .same-words .same-length ∙ tick .size
 
-    room-now : Room cycle-limit m′
-    room-now = room-more (omega (arith, u .part, few-choices)) (room-within (tick .room) (u .within))
+    pub room-now : Room cycle-limit m′
+    room-now = room-grown (tick .room) (u .grown) (omega (arith, u .part, few-choices))
 
-    -- the job is finished, or all workers have had their cycle
-    over : cycles plan i (drop i choices) e ≡ e → Ticked first second pending next ends m choices pending′ next′ ends′ m′
-    over ended = record { shows = sym (u .shows ∙ ended); sound = u .sound; within = within-more (omega (arith, u .part, few-choices)) (u .within) }
+    waited : t .mugs .0 ≤ word words′ 9
+    waited = omega (arith, u .mugged, u .same-words .same-others 9 (λ e. omega arith), u .same-words .same-others 4 (λ e. omega arith))
 
-    pub tick-finished : m′ .done ≡ m′ .tasks → Ticked first second pending next ends m choices pending′ next′ ends′ m′
-    tick-finished all = over (cycles-ended plan i e (drop i choices) (done-is ∙ eq-eqb (m′ .done) (m′ .tasks) all))
+    head-in-ring : word words′ 8 < 64
+    head-in-ring = rw (u .same-words .same-others 8 (λ e. omega arith)) (tick .sound .kept .head-in-ring)
 
-    pub tick-over : length choices ≤ i → Ticked first second pending next ends m choices pending′ next′ ends′ m′
-    tick-over h = over (cycles-none plan i e (drop i choices) (ap length (drop-of-length-le choices h)))
+    -- the tally can be added
+    pub addable : Addable words′ i t
+    addable =
+        record {
+          size = sized;
+          done-fits = omega (arith, done-of-tasks (u .sound), u .sound .few-tasks);
+          waited = waited;
+          head-in-ring = head-in-ring;
+          counted = u .counted;
+          room = room-now;
+        }
 
-    -- the next worker's turn
-    module _ (l : i < length choices) where
-      choice-inside : getD choices i 0 < m .workers
-      choice-inside = ltb-true (getD choices i 0) (m .workers) (every-place (λ c. ltb c (m .workers)) choices i (tick .all-workers) l)
-
-      pub next-turn : ChoiceTurn first second pending′ next′ ends′ m′ i (getD choices i 0)
-      next-turn =
+    -- the job is finished, or all workers have had their cycle, and the tally was added
+    module _ {words″ : List ℕ} (settled : Settled words′ i t words″) where
+      over : cycles its-graph i (drop i choices) e ≡ e → Ticked memory words choices memory′ words″
+      over ended =
           record {
-            turn =
-                record {
-                  sound = u .sound;
-                  worker = rw (u .within .same-workers, ← tick .one-each) l;
-                  room = room-now;
-                };
-            chosen = rw (u .within .same-workers) choice-inside;
+            shows = ap (view (parts memory′)) (settled .numbers) ∙ sym (u .shows ∙ ended);
+            sound = rw (settled .numbers) (u .sound);
+            grown = rw (settled .numbers) (grown-more (omega (arith, u .part, few-choices)) (u .grown));
+            same-graph = u .same-graph;
+            tail = tail-then (words-tail (u .same-words)) (settled .tail);
           }
 
-      pub onward : {pending″ next″ ends″ : List ℕ} {m″ : Numbers} → (m′ .done ≡ m′ .tasks → ⊥) →
-          Cycled first second pending′ next′ ends′ m′ i (getD choices i 0) pending″ next″ ends″ m″ →
-          Underway first second pending next ends m choices pending″ next″ ends″ m″ (i + 1)
-      onward unfinished c =
+      pub tick-finished : m′ .done ≡ m′ .tasks → Ticked memory words choices memory′ words″
+      tick-finished all = over (cycles-ended its-graph i e (drop i choices) (finished-is (u .sound) ∙ eq-eqb (m′ .done) (m′ .tasks) all))
+
+      pub tick-over : length choices ≤ i → Ticked memory words choices memory′ words″
+      tick-over h = over (cycles-none its-graph i e (drop i choices) (ap length (drop-of-length-le choices h)))
+
+    -- ---- the next worker's turn
+
+    module _ (l : i < length choices) where
+      choice-inside : getD choices i 0 < numbers-in words .workers
+      choice-inside =
+          ltb-true (getD choices i 0) (numbers-in words .workers)
+          (every-place (λ c. ltb c (numbers-in words .workers)) choices i (tick .all-workers) l)
+
+      pub next-turn : ChoiceTurn (parts memory′) m′ i (getD choices i 0)
+      next-turn =
+          record {
+            turn = record { sound = u .sound; worker = rw (u .grown .same-workers, ← tick .one-each) l; room = room-now };
+            chosen = rw (u .grown .same-workers) choice-inside;
+          }
+
+      pub idle-turn : getD (parts memory′ .ends) (size-at i) 0 ≡ 0 → IdleTurn memory′ words′ i (getD choices i 0) t
+      idle-turn empty =
+          record { size = sized; turn = next-turn; empty = empty; waited = waited; head-in-ring = head-in-ring; counted = u .counted }
+
+      onward : {memory″ words″ : List ℕ} {t″ : Tally} → (m′ .done ≡ m′ .tasks → ⊥) →
+          Cycled (parts memory′) m′ i (getD choices i 0) (parts memory″) (numbers-at (numbers-in words″) (i + 1) t″) →
+          SameButSuccesses words′ words″ → t″ .works .0 + t″ .mugs .0 ≤ i + 1 → Underway memory words choices memory″ words″ t″ (i + 1)
+      onward unfinished c same few =
+          let same-plan : graph (parts memory′) (m′ .tasks) ≡ its-graph =
+          rw (u .same-graph .same-first, u .same-graph .same-second, u .grown .same-tasks) in
           record {
             part = omega arith;
             shows =
                 u .shows
-                ∙ ap (λ (cs : List ℕ). cycles plan i cs e) (drop-cons choices i 0 l)
-                ∙ cycles-onward plan i e (getD choices i 0) (drop (suc i) choices) (done-is ∙ ne-eqb (m′ .done) (m′ .tasks) unfinished)
-                ∙ rw (add-one, ← u .within .same-tasks, c .shows);
+                ∙ ap (λ (cs : List ℕ). cycles its-graph i cs e) (drop-cons choices i 0 l)
+                ∙ cycles-onward its-graph i e (getD choices i 0) (drop (suc i) choices)
+                (finished-is (u .sound) ∙ ne-eqb (m′ .done) (m′ .tasks) unfinished)
+                ∙ rw (c .shows, add-one, same-plan);
             sound = c .sound;
-            within = within-then (u .within) (c .within);
+            grown = grown-then (u .grown) (c .grown);
             mugged = c .mugged ∙ u .mugged;
+            same-graph =
+                record {
+                  same-first = c .same-graph .same-first ∙ u .same-graph .same-first;
+                  same-second = c .same-graph .same-second ∙ u .same-graph .same-second;
+                };
+            same-words = words-then (u .same-words) same;
+            counted = few;
           }
 
-  -- the tally can be added
-  pub addable : {pending′ next′ ends′ : List ℕ} (t : Tally) {i : ℕ} → Underway first second pending next ends m choices pending′ next′ ends′ (numbers-at m t) i →
-      Addable m t
-  addable t u =
-      record {
-        done-fits = omega (arith, done-of-tasks (u .sound), tick .sound .few-tasks);
-        waited = omega (arith, u .mugged);
-        head = tick .sound .kept .head-in-ring;
-        room = room-now u;
-      }
+      -- the worker's deque is not empty
+      module _ (some : 0 < getD (parts memory′ .ends) (size-at i) 0) where
+        pub work-turn : WorkTurn (parts memory′) m′ i
+        work-turn = record { turn = next-turn .turn; filled = some }
+
+        pub onward-work : {memory″ : List ℕ} {t″ : Tally} → (m′ .done ≡ m′ .tasks → ⊥) →
+            (WorkTurn (parts memory′) m′ i → Worked (parts memory′) m′ i (parts memory″)) → t″ ≡ add-work t →
+            Underway memory words choices memory″ words′ t″ (i + 1)
+        onward-work unfinished promised added =
+            onward unfinished
+            (rw (added, work-added (numbers-in words′) i t) (cycled-work next-turn some (promised work-turn))) (same-words words′)
+            (rw added (omega (arith, u .counted)))
+
+      pub onward-idle : {memory″ words″ : List ℕ} {t″ : Tally} → (m′ .done ≡ m′ .tasks → ⊥) →
+          Idled memory′ words′ i (getD choices i 0) t memory″ words″ t″ → Underway memory words choices memory″ words″ t″ (i + 1)
+      onward-idle unfinished idled = onward unfinished (idled .cycled) (idled .same-words) (idled .counted)

@@ -1,4 +1,4 @@
--- What a worker's cycle and a tick's cycles ask and promise: what the arrays show afterwards is what the model's step makes of what they
+-- What a worker's cycle and a tick's cycles ask and promise: what the memory shows afterwards is what the model's step makes of what it
 -- showed before.
 use mathlib.Core.Path.{_≡_}
 use mathlib.Core.Bool.{true}
@@ -7,12 +7,12 @@ use Prim.Native.Nat.{ℕ, _+_, _-_, _%_, _^_, _≤_, _<_}
 use lib.Dec.{ltb}
 use lib.ListN.{length, getD}
 use Rattle.model.specs.Tests.{every}
-use Rattle.model.specs.Plan.{Plan}
-use Rattle.model.specs.Machine.{steal-cycle, performed, work-cycle, mug-cycle, cycle, cycles}
-use Rattle.deque.specs.declared.Numbers.{Numbers}
-use Rattle.deque.specs.View.{size-at, deque-at, graph, view}
-use Rattle.deque.specs.Steps.{Reachable}
-use Rattle.deque.specs.Sound.{Sizes, Kept, Sound, Room, Within}
+use Rattle.model.specs.Machine.{work-cycle, cycle, cycles}
+use Rattle.memory.specs.Parts.{Parts, parts, SameGraph}
+use Rattle.memory.specs.Words.{word-count, word, Numbers, numbers-in, SameTail}
+use Rattle.memory.specs.Graphs.{graph}
+use Rattle.memory.specs.View.{front-at, size-at, view}
+use Rattle.memory.specs.Sound.{Sizes, Kept, Sound, Room, Grown}
 use Rattle.turn.specs.declared.Tally.{Tally}
 
 -- ---- the numbers after a cycle of each kind
@@ -23,7 +23,7 @@ after-work m =
       tasks = m .tasks;
       workers = m .workers;
       done = m .done + 1;
-      works = record { 0 = m .works .0 + 1 };
+      works = m .works + 1;
       mugs = m .mugs;
       steals = m .steals;
       successes = m .successes;
@@ -39,7 +39,7 @@ after-mug m =
       workers = m .workers;
       done = m .done;
       works = m .works;
-      mugs = record { 0 = m .mugs .0 + 1 };
+      mugs = m .mugs + 1;
       steals = m .steals;
       successes = m .successes;
       usage = m .usage + 1;
@@ -56,42 +56,35 @@ after-steal success m =
       done = m .done;
       works = m .works;
       mugs = m .mugs;
-      steals = record { 0 = m .steals .0 + 1 };
+      steals = m .steals + 1;
       successes = m .successes + success;
       usage = m .usage;
       head = m .head;
       waiting = m .waiting;
     }
 
--- ---- what the cycles of a tick so far add
+-- ---- what the cycles of a tick so far add to the words; a success is counted there at once
 
 abbrev pub no-tally : Tally
-no-tally = record { works = record { 0 = 0 }; mugs = record { 0 = 0 }; steals = record { 0 = 0 }; successes = 0 }
+no-tally = record { works = record { 0 = 0 }; mugs = record { 0 = 0 } }
 
 abbrev pub add-work : Tally → Tally
-add-work t =
-    record { works = record { 0 = t .works .0 + 1 }; mugs = t .mugs; steals = t .steals; successes = t .successes }
+add-work t = record { works = record { 0 = t .works .0 + 1 }; mugs = t .mugs }
 
 abbrev pub add-mug : Tally → Tally
-add-mug t =
-    record { works = t .works; mugs = record { 0 = t .mugs .0 + 1 }; steals = t .steals; successes = t .successes }
+add-mug t = record { works = t .works; mugs = record { 0 = t .mugs .0 + 1 } }
 
--- with 1 success or 0
-abbrev pub add-steal : ℕ → Tally → Tally
-add-steal success t =
-    record { works = t .works; mugs = t .mugs; steals = record { 0 = t .steals .0 + 1 }; successes = t .successes + success }
-
--- the numbers of a tick's beginning with what its cycles so far add
-abbrev pub numbers-at : Numbers → Tally → Numbers
-numbers-at m t =
+-- the numbers with what the cycles so far add: of so many, those that are neither work nor mug cycles are steal cycles
+abbrev pub numbers-at : Numbers → ℕ → Tally → Numbers
+numbers-at m cycles t =
     record {
       tasks = m .tasks;
       workers = m .workers;
       done = m .done + t .works .0;
-      works = record { 0 = m .works .0 + t .works .0 };
-      mugs = record { 0 = m .mugs .0 + t .mugs .0 };
-      steals = record { 0 = m .steals .0 + t .steals .0 };
-      successes = m .successes + t .successes;
+      works = m .works + t .works .0;
+      mugs = m .mugs + t .mugs .0;
+      steals = m .steals + (cycles - (t .works .0 + t .mugs .0));
+      successes = m .successes;
       usage = m .usage + (t .works .0 + t .mugs .0);
       head = (m .head + t .mugs .0) % 64;
       waiting = m .waiting - t .mugs .0;
@@ -111,103 +104,90 @@ cycle-limit = count-limit + 64
 pub record Growing (t : Tally) : Type 0 where
   pub works-fit : t .works .0 ≤ cycle-limit
   pub mugs-fit : t .mugs .0 ≤ cycle-limit
-  pub steals-fit : t .steals .0 ≤ cycle-limit
-  pub successes-fit : t .successes ≤ cycle-limit
 
--- sums that fit, and no more mugs than muggable deques
-pub record Addable (m : Numbers) (t : Tally) : Type 0 where
-  pub done-fits : m .done + t .works .0 ≤ 1024
-  pub waited : t .mugs .0 ≤ m .waiting
-  pub head : m .head < 64
-  pub room : Room cycle-limit (numbers-at m t)
+-- sums that fit, no more mugs than muggable deques, and no more cycles of two kinds than of all
+pub record Addable (words : List ℕ) (cycles : ℕ) (t : Tally) : Type 0 where
+  pub size : length words ≡ word-count
+  pub done-fits : numbers-in words .done + t .works .0 ≤ 1024
+  pub waited : t .mugs .0 ≤ numbers-in words .waiting
+  pub head-in-ring : numbers-in words .head < 64
+  pub counted : t .works .0 + t .mugs .0 ≤ cycles
+  pub room : Room cycle-limit (numbers-at (numbers-in words) cycles t)
 
--- ---- one cycle of each kind
+-- the words have what the tally adds, and the others stay
+pub record Settled (words : List ℕ) (cycles : ℕ) (t : Tally) (words′ : List ℕ) : Type 0 where
+  pub numbers : numbers-in words′ ≡ numbers-at (numbers-in words) cycles t
+  pub tail : SameTail words words′
 
--- a muggable deque waits, and the worker's place is one of those shown
-pub record MugTurn (ends : List ℕ) (m : Numbers) (w : ℕ) : Type 0 where
-  pub places : length ends ≡ 256
-  pub worker : w < m .workers
-  pub workers : m .workers ≤ 64
-  pub head : m .head < 64
-  pub waits : 1 ≤ m .waiting
-  pub room : Room cycle-limit m
+-- ---- a worker's cycle
 
--- whatever else the arrays show: "The oldest orphan becomes this worker's line, whole"
-pub record Mugged (ends : List ℕ) (m : Numbers) (w : ℕ) (ends′ : List ℕ) (m′ : Numbers) : Type 0 where
-  pub places : length ends′ ≡ 256
-  pub numbers : m′ ≡ after-mug m
-  pub shows : (pending next : List ℕ) → view pending next ends′ m′ ≡ mug-cycle w (deque-at next ends (64 + m .head)) (view pending next ends m)
-
--- the places of the worker and of the chosen one are among those shown, and the links of the chosen deque can be followed
-pub record StealTurn (next ends : List ℕ) (m : Numbers) (w choice : ℕ) : Type 0 where
-  pub places : length ends ≡ 256
-  pub worker : w < m .workers
-  pub chosen : choice < m .workers
-  pub workers : m .workers ≤ 64
-  pub links : Reachable next (getD ends choice 0) (getD ends (size-at choice) 0)
-  pub room : Room cycle-limit m
-
-pub record Stolen (next ends : List ℕ) (m : Numbers) (w choice : ℕ) (ends′ : List ℕ) (m′ : Numbers) : Type 0 where
-  pub places : length ends′ ≡ 256
-  pub numbers : (success : ℕ) × (success ≤ 1) × (m′ ≡ after-steal success m)
-  pub shows : (plan : Plan) (pending : List ℕ) →
-      view pending next ends′ m′ ≡ performed plan w (steal-cycle choice (deque-at next ends choice)) (view pending next ends m)
-
--- sound arrays and numbers, and a worker of them
-pub record Turn (first second pending next ends : List ℕ) (m : Numbers) (w : ℕ) : Type 0 where
-  pub sound : Sound first second pending next ends m
+-- sound parts and numbers, and a worker of them
+pub record WorkerTurn (p : Parts) (m : Numbers) (w : ℕ) : Type 0 where
+  pub sound : Sound p m
   pub worker : w < m .workers
   pub room : Room cycle-limit m
 
 -- a worker whose deque is not empty
-pub record WorkTurn (first second pending next ends : List ℕ) (m : Numbers) (w : ℕ) : Type 0 where
-  pub turn : Turn first second pending next ends m w
-  pub filled : 1 ≤ getD ends (size-at w) 0
+pub record WorkTurn (p : Parts) (m : Numbers) (w : ℕ) : Type 0 where
+  pub turn : WorkerTurn p m w
+  pub filled : 1 ≤ getD (p .ends) (size-at w) 0
 
-pub record Worked (first second pending next ends : List ℕ) (m : Numbers) (w : ℕ) (pending′ next′ ends′ : List ℕ) (m′ : Numbers) : Type 0 where
-  pub sizes : Sizes pending′ next′ ends′
-  pub numbers : m′ ≡ after-work m
-  pub kept : Kept (graph first second (m .tasks)) pending′ m′
-  pub shows : view pending′ next′ ends′ m′ ≡ work-cycle (graph first second (m .tasks)) w (getD ends w 0) (view pending next ends m)
+-- with one work cycle more the parts show the model's work cycle
+pub record Worked (p : Parts) (m : Numbers) (w : ℕ) (p′ : Parts) : Type 0 where
+  pub sizes : Sizes p′
+  pub kept : Kept (graph p (m .tasks)) p′ (after-work m)
+  pub shows : view p′ (after-work m) ≡ work-cycle (graph p (m .tasks)) w (getD (p .ends) (front-at w) 0) (view p m)
+  pub same-graph : SameGraph p p′
 
--- ---- a worker's cycle
-
-pub record ChoiceTurn (first second pending next ends : List ℕ) (m : Numbers) (w choice : ℕ) : Type 0 where
-  pub turn : Turn first second pending next ends m w
+-- a worker and its choice
+pub record ChoiceTurn (p : Parts) (m : Numbers) (w choice : ℕ) : Type 0 where
+  pub turn : WorkerTurn p m w
   pub chosen : choice < m .workers
 
-pub record Cycled (first second pending next ends : List ℕ) (m : Numbers) (w choice : ℕ) (pending′ next′ ends′ : List ℕ) (m′ : Numbers) : Type 0 where
-  pub shows : view pending′ next′ ends′ m′ ≡ cycle (graph first second (m .tasks)) w choice (view pending next ends m)
-  pub sound : Sound first second pending′ next′ ends′ m′
-  pub within : Within 1 m m′
+-- the parts and numbers show the model's cycle, and are sound
+pub record Cycled (p : Parts) (m : Numbers) (w choice : ℕ) (p′ : Parts) (m′ : Numbers) : Type 0 where
+  pub shows : view p′ m′ ≡ cycle (graph p (m .tasks)) w choice (view p m)
+  pub sound : Sound p′ m′
+  pub grown : Grown 1 m m′
   -- each mug takes one of the muggable deques
-  pub mugged : m′ .waiting + m′ .mugs .0 ≡ m .waiting + m .mugs .0
+  pub mugged : m′ .waiting + m′ .mugs ≡ m .waiting + m .mugs
+  pub same-graph : SameGraph p p′
 
--- ---- the cycle of a worker whose deque is empty
+-- the cycle of a worker whose deque is empty, counted in words and tally
+pub record IdleTurn (memory words : List ℕ) (w choice : ℕ) (t : Tally) : Type 0 where
+  pub size : length words ≡ word-count
+  pub turn : ChoiceTurn (parts memory) (numbers-at (numbers-in words) w t) w choice
+  pub empty : getD (parts memory .ends) (size-at w) 0 ≡ 0
+  pub waited : t .mugs .0 ≤ numbers-in words .waiting
+  pub head-in-ring : numbers-in words .head < 64
+  pub counted : t .works .0 + t .mugs .0 ≤ w
 
--- of arrays and numbers that are sound with some other arrays
-pub record IdleTurn (next ends : List ℕ) (m : Numbers) (w choice : ℕ) : Type 0 where
-  pub first : List ℕ
-  pub second : List ℕ
-  pub pending : List ℕ
-  pub turn : ChoiceTurn first second pending next ends m w choice
+-- of the words only that of the successes may differ
+pub record SameButSuccesses (words words′ : List ℕ) : Type 0 where
+  pub same-length : length words′ ≡ length words
+  pub same-others : (place : ℕ) → (place ≡ 6 → ⊥) → word words′ place ≡ word words place
 
--- the promise, with all of these; no task is worked
-pub record Idled (next ends : List ℕ) (m : Numbers) (w choice : ℕ) (ends′ : List ℕ) (m′ : Numbers) : Type 0 where
-  pub cycled : (first second pending : List ℕ) → ChoiceTurn first second pending next ends m w choice → getD ends (size-at w) 0 ≡ 0 →
-      Cycled first second pending next ends m w choice pending next ends′ m′
-  pub same-done : m′ .done ≡ m .done
+-- no task is worked
+pub record Idled (memory words : List ℕ) (w choice : ℕ) (t : Tally) (memory′ words′ : List ℕ) (t′ : Tally) : Type 0 where
+  pub cycled : Cycled (parts memory) (numbers-at (numbers-in words) w t) w choice (parts memory′) (numbers-at (numbers-in words′) (w + 1) t′)
+  pub same-works : t′ .works ≡ t .works
+  pub counted : t′ .works .0 + t′ .mugs .0 ≤ w + 1
+  pub same-words : SameButSuccesses words words′
 
 -- ---- a tick's cycles
 
-pub record TickTurn (first second pending next ends : List ℕ) (m : Numbers) (choices : List ℕ) : Type 0 where
-  pub sound : Sound first second pending next ends m
-  pub one-each : length choices ≡ m .workers
-  pub all-workers : every (λ choice. ltb choice (m .workers)) choices ≡ true
-  pub unfinished : m .done ≡ m .tasks → ⊥
-  pub room : Room count-limit m
+pub record TickTurn (memory words choices : List ℕ) : Type 0 where
+  pub size : length words ≡ word-count
+  pub sound : Sound (parts memory) (numbers-in words)
+  pub one-each : length choices ≡ numbers-in words .workers
+  pub all-workers : every (λ choice. ltb choice (numbers-in words .workers)) choices ≡ true
+  pub unfinished : numbers-in words .done ≡ numbers-in words .tasks → ⊥
+  pub room : Room count-limit (numbers-in words)
 
-pub record Ticked (first second pending next ends : List ℕ) (m : Numbers) (choices pending′ next′ ends′ : List ℕ) (m′ : Numbers) : Type 0 where
-  pub shows : view pending′ next′ ends′ m′ ≡ cycles (graph first second (m .tasks)) 0 choices (view pending next ends m)
-  pub sound : Sound first second pending′ next′ ends′ m′
-  pub within : Within 64 m m′
+pub record Ticked (memory words choices memory′ words′ : List ℕ) : Type 0 where
+  pub shows : view (parts memory′) (numbers-in words′)
+      ≡ cycles (graph (parts memory) (numbers-in words .tasks)) 0 choices (view (parts memory) (numbers-in words))
+  pub sound : Sound (parts memory′) (numbers-in words′)
+  pub grown : Grown 64 (numbers-in words) (numbers-in words′)
+  pub same-graph : SameGraph (parts memory) (parts memory′)
+  pub tail : SameTail words words′

@@ -1,19 +1,18 @@
-// A worker's cycle (work, mug, steal) and the cycles of a tick, in place over the arrays of a job.
+// A worker's cycle (work, mug, steal) and the cycles of a tick, in place in a job's memory and words.
 use cycle_counts::MugCycles;
 use cycle_counts::StealCycles;
 use cycle_counts::WorkCycles;
-use deque::Deque;
-use deque::Numbers;
+use memory::Deque;
 ghost use mathlib.Core.Path.{_≡_};
-ghost use Prim.Native.Nat.{_+_, _≤_, _<_};
-ghost use Rattle.turn.specs.Turns.{no-tally, add-work, add-mug, add-steal, numbers-at, Growing, Addable, MugTurn, Mugged, StealTurn, Stolen, WorkTurn, Worked, IdleTurn, Idled, TickTurn, Ticked};
+ghost use Rattle.memory.specs.Parts.{parts};
+ghost use Rattle.memory.specs.Words.{Numbers};
+ghost use Rattle.turn.specs.Turns.{no-tally, add-work, add-mug, Growing, Addable, Settled};
+ghost use Rattle.turn.specs.Turns.{WorkTurn, Worked, IdleTurn, Idled, TickTurn, Ticked};
 
-// What the cycles of a tick so far add to the numbers.
+// How many of a tick's cycles so far were work cycles and how many mug cycles; the others are steal cycles.
 pub struct Tally {
     pub works: WorkCycles,
     pub mugs: MugCycles,
-    pub steals: StealCycles,
-    pub successes: u64,
 }
 
 // No cycle yet.
@@ -23,8 +22,6 @@ fn no_tally() -> Tally
     Tally {
         works: WorkCycles::none(),
         mugs: MugCycles::none(),
-        steals: StealCycles::none(),
-        successes: 0,
     }
 }
 
@@ -35,12 +32,9 @@ fn add_work(t: Tally) -> Tally
 {
     let works = t.works;
     let mugs = t.mugs;
-    let steals = t.steals;
     Tally {
         works: works.one_more(),
-        mugs: mugs,
-        steals: steals,
-        successes: t.successes,
+        mugs,
     }
 }
 
@@ -51,191 +45,139 @@ fn add_mug(t: Tally) -> Tally
 {
     let works = t.works;
     let mugs = t.mugs;
-    let steals = t.steals;
     Tally {
-        works: works,
+        works,
         mugs: mugs.one_more(),
-        steals: steals,
-        successes: t.successes,
     }
 }
 
-// One steal cycle more, with 1 success or 0.
-fn add_steal(t: Tally, success: u64) -> Tally
-    requires { ⌜ (Growing t) × (success ≤ 1) ⌝ }
-    ensures { λ r. ⌜ r ≡ add-steal success t ⌝ }
+// The words take what so many cycles with this tally add: those that are neither work nor mug cycles are steal cycles. Each mug took one of
+// the muggable deques; where there was none, nothing of the ring is written.
+fn settle(words: &mut [u64; 18], cycles: usize, t: Tally)
+    requires { ⌜ Addable (now words) cycles t ⌝ }
+    ensures { λ _. ⌜ Settled (now (words .entry)) cycles t (now (words .exit)) ⌝ }
 {
     let works = t.works;
     let mugs = t.mugs;
-    let steals = t.steals;
-    Tally {
-        works: works,
-        mugs: mugs,
-        steals: steals.one_more(),
-        successes: t.successes + success,
+    words[2] = words[2] + works.number();
+    words[7] = words[7] + cycle_counts::usage(works, mugs);
+    let all_works = WorkCycles::kept(words).plus(works);
+    all_works.keep(words);
+    let steals = StealCycles::others(cycles as u64, works, mugs);
+    let all_steals = StealCycles::kept(words).plus(steals);
+    all_steals.keep(words);
+    let mugged = mugs.number();
+    if mugged == 0 {
+        return;
     }
+    let all_mugs = MugCycles::kept(words).plus(mugs);
+    all_mugs.keep(words);
+    words[8] = (words[8] + mugged) % 64;
+    words[9] = words[9] - mugged;
 }
 
-// The numbers of a tick's beginning with what its cycles add.
-fn numbers_at(m: Numbers, t: Tally) -> Numbers
-    requires { ⌜ Addable m t ⌝ }
-    ensures { λ r. ⌜ r ≡ numbers-at m t ⌝ }
+// A work cycle: the front task of the worker's deque is worked and leaves, and its successors that became ready take its place. A task with
+// one successor comes first: where that one became ready, it is the new front and the size stays.
+pub fn work_cycle(memory: &mut [u16; 4352], w: usize)
+    requires { ⌜ ((m : Numbers) × WorkTurn (parts (now memory)) m w) ⌝ }
+    ensures { λ _. ⌜ ((m : Numbers) → WorkTurn (parts (now (memory .entry))) m w →
+        Worked (parts (now (memory .entry))) m w (parts (now (memory .exit)))) ⌝ }
 {
-    let works = t.works;
-    let mugs = t.mugs;
-    let steals = t.steals;
-    let all_works = m.works;
-    let all_mugs = m.mugs;
-    let all_steals = m.steals;
-    let worked = works.number();
-    let mugged = mugs.number() as usize;
-    let used = cycle_counts::usage(works, mugs);
-    let done = m.done + worked as u16;
-    let successes = m.successes + t.successes;
-    let usage = m.usage + used;
-    let head = (m.head + mugged) % 64;
-    let waiting = m.waiting - mugged;
-    Numbers {
-        tasks: m.tasks,
-        workers: m.workers,
-        done,
-        works: all_works.plus(works),
-        mugs: all_mugs.plus(mugs),
-        steals: all_steals.plus(steals),
-        successes,
-        usage,
-        head,
-        waiting,
+    let front_at = 4096 + 2 * w;
+    let size_at = 4096 + (2 * w + 1);
+    let front = memory[front_at];
+    let size = memory[size_at];
+    let task = deque::wide(front);
+    let next_at = 2048 + task;
+    let rest = memory[next_at];
+    let pending_at = 3072 + task;
+    memory[pending_at] = 3;
+    let one = memory[task];
+    let second_at = 1024 + task;
+    let two = memory[second_at];
+    if two == 0 {
+        if one == 0 {
+            memory[front_at] = rest;
+            memory[size_at] = size - 1;
+            return;
+        }
+        let at = deque::wide(one);
+        let awaits_at = 3072 + at;
+        let awaited = memory[awaits_at];
+        memory[awaits_at] = awaited - 1;
+        if awaited == 1 {
+            let link_at = 2048 + at;
+            memory[link_at] = rest;
+            memory[front_at] = one;
+            return;
+        }
+        memory[front_at] = rest;
+        memory[size_at] = size - 1;
+        return;
     }
-}
-
-// A mug cycle: the oldest muggable deque becomes the worker's own, whole.
-pub fn mug_cycle(ends: &mut [u16; 256], w: usize, m: Numbers, t: Tally) -> Tally
-    requires { ⌜ (m .head < 64) × MugTurn (now ends) (numbers-at m t) w ⌝ }
-    ensures { λ r. ⌜ Mugged (now (ends .entry)) (numbers-at m t) w (now (ends .exit)) (numbers-at m r) ⌝ }
-{
-    let mugs = t.mugs;
-    let mugged = mugs.number() as usize;
-    let place = 64 + (m.head + mugged) % 64;
-    let oldest = deque::deque_at(ends, place);
-    deque::put(ends, w, oldest);
-    add_mug(t)
-}
-
-// A steal cycle: of a deque of two or more tasks the back part becomes the thief's deque; of any other nothing moves.
-pub fn steal_cycle(
-    next: &[u16; 1024],
-    ends: &mut [u16; 256],
-    w: usize,
-    choice: usize,
-    t: Tally,
-) -> Tally
-    requires { ⌜ ((m : Numbers) × StealTurn (now next) (now ends) (numbers-at m t) w choice) ⌝ }
-    ensures { λ r. ⌜ ((m : Numbers) → StealTurn (now (next .entry)) (now (ends .entry)) (numbers-at m t) w choice → Stolen (now (next .entry)) (now (ends .entry)) (numbers-at m t) w choice (now (ends .exit)) (numbers-at m r)) ⌝ }
-{
-    let victim = deque::deque_at(ends, choice);
-    if victim.size < 2 {
-        return add_steal(t, 0);
-    }
-    let taken = deque::stolen_count(victim.size);
-    let left = victim.size - taken;
-    let front = deque::ahead(next, victim.front, left);
-    deque::put(
-        ends,
-        choice,
+    let after = deque::release_successors(
+        memory,
+        one,
+        two,
         Deque {
-            front: victim.front,
-            size: left,
+            front: rest,
+            size: size - 1,
         },
     );
-    deque::put(
-        ends,
-        w,
-        Deque {
-            front: front,
-            size: taken,
-        },
-    );
-    add_steal(t, 1)
+    deque::put(memory, w, after);
 }
 
-// A work cycle: the front task of the worker's deque is worked and leaves, and its successors that became ready take its place.
-pub fn work_cycle(
-    first: &[u16; 1024],
-    second: &[u16; 1024],
-    pending: &mut [u8; 1024],
-    next: &mut [u16; 1024],
-    ends: &mut [u16; 256],
-    w: usize,
-    t: Tally,
-) -> Tally
-    requires { ⌜ ((m : Numbers) × WorkTurn (now first) (now second) (now pending) (now next) (now ends) (numbers-at m t) w) ⌝ }
-    ensures { λ r. ⌜ ((m : Numbers) → WorkTurn (now (first .entry)) (now (second .entry)) (now (pending .entry)) (now (next .entry)) (now (ends .entry)) (numbers-at m t) w → Worked (now (first .entry)) (now (second .entry)) (now (pending .entry)) (now (next .entry)) (now (ends .entry)) (numbers-at m t) w (now (pending .exit)) (now (next .exit)) (now (ends .exit)) (numbers-at m r)) ⌝ }
-{
-    let own = deque::deque_at(ends, w);
-    let task = deque::wide(own.front);
-    let rest = Deque {
-        front: next[task],
-        size: own.size - 1,
-    };
-    pending[task] = 3;
-    let one = first[task];
-    let two = second[task];
-    let after = deque::release_successors(pending, next, one, two, rest);
-    deque::put(ends, w, after);
-    add_work(t)
-}
-
-// One cycle of the worker `w`, whose deque is empty: it mugs if a muggable deque waits, else steals from `choice`.
+// One cycle of the worker `w`, whose deque is empty. A muggable deque that waits becomes its own, the oldest first. If none waits, it takes
+// the back part of the chosen worker's deque, of two or more tasks: a success. Of any other deque nothing moves.
 pub fn idle_cycle(
-    next: &[u16; 1024],
-    ends: &mut [u16; 256],
+    memory: &mut [u16; 4352],
+    words: &mut [u64; 18],
     w: usize,
     choice: usize,
-    m: Numbers,
     t: Tally,
 ) -> Tally
-    requires { ⌜ (m .head < 64) × IdleTurn (now next) (now ends) (numbers-at m t) w choice ⌝ }
-    ensures { λ r. ⌜ Idled (now (next .entry)) (now (ends .entry)) (numbers-at m t) w choice (now (ends .exit)) (numbers-at m r) ⌝ }
+    requires { ⌜ IdleTurn (now memory) (now words) w choice t ⌝ }
+    ensures { λ r. ⌜ Idled (now (memory .entry)) (now (words .entry)) w choice t (now (memory .exit)) (now (words .exit)) r ⌝ }
 {
     let mugs = t.mugs;
-    let mugged = mugs.number() as usize;
-    if mugged < m.waiting {
-        return mug_cycle(ends, w, m, t);
+    let mugged = mugs.number();
+    if mugged < words[9] {
+        let oldest = 64 + (words[8] + mugged) % 64;
+        deque::hand_over(memory, oldest as usize, w);
+        return add_mug(t);
     }
-    steal_cycle(next, ends, w, choice, t)
+    let size_at = 4096 + (2 * choice + 1);
+    if memory[size_at] > 1 {
+        deque::rob(memory, w, choice);
+        words[6] = words[6] + 1;
+    }
+    t
 }
 
-// The cycles of a tick: the workers in number order, one cycle each, with a choice each, until the job is finished. Only a work cycle can finish
-// it. A worker whose deque is not empty works.
-pub fn cycles(
-    first: &[u16; 1024],
-    second: &[u16; 1024],
-    pending: &mut [u8; 1024],
-    next: &mut [u16; 1024],
-    ends: &mut [u16; 256],
-    choices: &[u8],
-    m: Numbers,
-) -> Numbers
-    requires { ⌜ TickTurn (now first) (now second) (now pending) (now next) (now ends) m (now choices) ⌝ }
-    ensures { λ r. ⌜ Ticked (now (first .entry)) (now (second .entry)) (now (pending .entry)) (now (next .entry)) (now (ends .entry)) m (now (choices .entry)) (now (pending .exit)) (now (next .exit)) (now (ends .exit)) r ⌝ }
+// The cycles of a tick: the workers in number order, one cycle each, with a choice each, until the job is finished. Only a work cycle can
+// finish it. A worker whose deque is not empty works.
+pub fn cycles(memory: &mut [u16; 4352], words: &mut [u64; 18], choices: &[u8])
+    requires { ⌜ TickTurn (now memory) (now words) (now choices) ⌝ }
+    ensures { λ _. ⌜ Ticked (now (memory .entry)) (now (words .entry)) (now (choices .entry)) (now (memory .exit)) (now (words .exit)) ⌝ }
 {
-    let left = (m.tasks - m.done) as u64;
+    let left = words[0] - words[2];
     let mut t = no_tally();
     let mut w = 0;
     while w < choices.len() {
-        let own = deque::deque_at(ends, w);
-        if own.size > 0 {
-            t = work_cycle(first, second, pending, next, ends, w, t);
+        let size_at = 4096 + (2 * w + 1);
+        if memory[size_at] > 0 {
+            work_cycle(memory, w);
+            t = add_work(t);
             let works = t.works;
             if works.number() == left {
-                return numbers_at(m, t);
+                settle(words, w + 1, t);
+                return;
             }
         } else {
             let choice = choices[w] as usize;
-            t = idle_cycle(next, ends, w, choice, m, t);
+            t = idle_cycle(memory, words, w, choice, t);
         }
         w += 1;
     }
-    numbers_at(m, t)
+    settle(words, w, t);
 }

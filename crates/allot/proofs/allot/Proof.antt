@@ -1,34 +1,53 @@
 -- `allot::allot` meets its contract: the three ways out of a grant.
+use mathlib.Core.Path.{refl}
 use borrow.Author.Needs.{needs}
 use Rattle.allot.proofs.Allotments.{withdrawable, granted-later, granted-nothing, granted-first}
 use Rattle.allot.proofs.allot.Statement.{statement}
 use Rattle.allot.proofs.allot.Tie as tie
 
-cast-workers : tie.Need-cast-workers
-cast-workers c = search needs
+-- the function's entry, seen from after the clearing
+abbrev entry : tie.After-clear → tie.Start
+entry d =
+    let read = d .before .before .before in
+    read .before .before .before .before .before
+
+element-copy-out-workers : tie.Need-element-copy-out-workers
+element-copy-out-workers c = search needs
+
+element-copy-out-head : tie.Need-element-copy-out-head
+element-copy-out-head c = search needs
+
+element-copy-out-before : tie.Need-element-copy-out-before
+element-copy-out-before c = search needs
+
+element-copy-out-started : tie.Need-element-copy-out-started
+element-copy-out-started c = search needs
 
 withdraw-requires : tie.Need-withdraw-requires
-withdraw-requires c κs = withdrawable (c .before .before .pre)
+withdraw-requires c κs = withdrawable (c .before .before .before .before .before .pre)
 
 clear-requires : tie.Need-clear-requires
 clear-requires c κs = search needs
 
-renumbered-requires : tie.Need-renumbered-requires
-renumbered-requires c κs = search needs
+element-write-words : tie.Need-element-write-words
+element-write-words c = search needs
+
+element-write-words-2 : tie.Need-element-write-words-2
+element-write-words-2 c = search needs
+
+element-write-words-3 : tie.Need-element-write-words-3
+element-write-words-3 c = search needs
 
 returns : tie.Need-returns
 returns c =
     let d = c .before in
-    rw (d .renumbered .ensures)
-    (granted-later (d .before .before .before .before .before .before .pre) (d .before .before .before .withdraw .ensures)
-    (d .before .clear .ensures) (c .if1 .taken))
+    granted-later (entry d .pre) (d .before .before .withdraw .ensures) (d .clear .ensures) (c .if1 .taken) refl
 
 returns-2 : tie.Need-returns-2
 returns-2 c =
     let d = c .before .before in
-    rw (d .renumbered .ensures)
-    (granted-nothing (d .before .before .before .before .before .before .pre) (d .before .before .before .withdraw .ensures)
-    (d .before .clear .ensures) (c .before .if1 .left) (c .if2 .taken))
+    granted-nothing (entry d .pre) (d .before .before .withdraw .ensures) (d .clear .ensures)
+    (c .before .if1 .left) (c .if2 .taken) refl
 
 put-requires : tie.Need-put-requires
 put-requires c κs = search needs
@@ -36,18 +55,23 @@ put-requires c κs = search needs
 returns-3 : tie.Need-returns-3
 returns-3 c =
     let d = c .before .before .before .before in
-    rw (c .put .ensures, d .renumbered .ensures)
-    (granted-first (d .before .before .before .before .before .before .pre) (d .before .before .before .withdraw .ensures)
-    (d .before .clear .ensures) (c .before .before .before .if1 .left) (c .before .before .if2 .left))
+    granted-first (entry d .pre) (d .before .before .withdraw .ensures) (d .clear .ensures)
+    (c .before .before .before .if1 .left) (c .before .before .if2 .left)
+    (c .put .ensures)
 
 pub allot-spec : {M : Type 1} → statement M
 allot-spec =
     tie.close
     (tie.spec
-    cast-workers
+    element-copy-out-workers
+    element-copy-out-head
+    element-copy-out-before
+    element-copy-out-started
     withdraw-requires
     clear-requires
-    renumbered-requires
+    element-write-words
+    element-write-words-2
+    element-write-words-3
     returns
     returns-2
     put-requires

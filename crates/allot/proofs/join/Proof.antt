@@ -1,8 +1,8 @@
 -- `allot::join` meets its contract.
 use borrow.Author.Needs.{needs}
 use mathlib.Core.Path.{sym, ap, _∙_}
-use Rattle.deque.specs.declared.Deque.{Deque}
-use Rattle.allot.proofs.Ring.{join-empty, join-filled}
+use Rattle.memory.specs.declared.Deque.{Deque}
+use Rattle.allot.proofs.Ring.{no-move, ends-moved, join-empty, join-filled}
 use Rattle.allot.proofs.join.Statement.{statement}
 use Rattle.allot.proofs.join.Tie as tie
 
@@ -10,9 +10,11 @@ deque-at-requires : tie.Need-deque-at-requires
 deque-at-requires c κs = search needs
 
 returns : tie.Need-returns
-returns c =
-    join-empty (c .before .before .before .before .pre)
-    (sym (ap (λ (d : Deque). d .size) (c .before .before .deque-at .ensures)) ∙ c .if1 .taken)
+returns c = (
+  join-empty (c .before .before .before .before .pre)
+      (sym (ap (λ (d : Deque). d .size) (c .before .before .deque-at .ensures)) ∙ c .if1 .taken),
+  no-move,
+)
 
 add-place : tie.Need-add-place
 add-place c = search needs
@@ -28,10 +30,12 @@ add-result c = search needs
 
 returns-2 : tie.Need-returns-2
 returns-2 c =
-    let same = c .before .before .before .before .deque-at .ensures in
-    rw (c .put .ensures, same)
-    (join-filled (c .before .before .before .before .before .before .pre)
-    (λ e. c .before .before .if1 .left (ap (λ (d : Deque). d .size) same ∙ e)))
+    let read = c .before .before .before .before in
+    let same = read .deque-at .ensures in
+    rw (c .put .ensures, same) (
+      join-filled (read .before .before .pre) (λ e. c .before .before .if1 .left (ap (λ (d : Deque). d .size) same ∙ e)),
+      ends-moved,
+    )
 
 pub join-spec : {M : Type 1} → statement M
 join-spec =

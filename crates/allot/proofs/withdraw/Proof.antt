@@ -1,22 +1,24 @@
 -- `allot::withdraw` meets its contract. The loop's invariant: what has joined and what has yet to join is together what is to join.
 use Prim.Native.Nat.{_-_}
 use native.Mathlib.Omega.{arith}
+use Rattle.memory.specs.Parts.{parts, SameButEnds}
+use Rattle.allot.proofs.Ring.{no-move, moved-then}
 use Rattle.allot.proofs.Withdrawals.{Withdrawing, withdrawing-none, withdrawing-room, withdrawing-more, withdrawing-done}
 use Rattle.allot.proofs.withdraw.Statement.{statement}
 use Rattle.allot.proofs.withdraw.Tie as tie
 
 abbrev Inv-loop : tie.InvT-loop
-Inv-loop ends₀ head waiting g workers joined₀ worker₀ ends joined worker =
-    Withdrawing ends₀ head waiting g workers ends joined worker
+Inv-loop memory₀ head waiting g workers joined₀ worker₀ memory joined worker =
+    Withdrawing (parts memory₀ .ends) head waiting g workers (parts memory .ends) joined worker × SameButEnds (parts memory₀) (parts memory)
 
 abbrev μ-loop : tie.MeasureT-loop
-μ-loop ends₀ head waiting g workers joined₀ worker₀ ends joined worker = workers - worker
+μ-loop memory₀ head waiting g workers joined₀ worker₀ memory joined worker = workers - worker
 
 loop-holds : tie.Need-loop-holds Inv-loop μ-loop
-loop-holds c = withdrawing-none (c .pre)
+loop-holds c = (withdrawing-none (c .pre), no-move)
 
 join-requires : tie.Need-join-requires Inv-loop μ-loop
-join-requires c κs = withdrawing-room (c .before .before .before .pre) (c .before .before .loop .inv) (c .before .loop-test .taken)
+join-requires c κs = withdrawing-room (c .before .before .before .pre) (c .before .before .loop .inv .0) (c .before .loop-test .taken)
 
 add-worker : tie.Need-add-worker Inv-loop μ-loop
 add-worker c = omega (arith, c .before .before .before .before .pre .some-workers)
@@ -26,11 +28,15 @@ loop-less c = omega arith
 
 loop-again : tie.Need-loop-again Inv-loop μ-loop
 loop-again c =
-    withdrawing-more (c .before .before .before .before .pre) (c .before .before .before .loop .inv) (c .before .before .loop-test .taken)
-    (c .join .ensures)
+    let at = c .before .before .before .loop .inv in (
+      withdrawing-more (c .before .before .before .before .pre) (at .0) (c .before .before .loop-test .taken) (c .join .ensures .0),
+      moved-then (at .1) (c .join .ensures .1),
+    )
 
 returns : tie.Need-returns Inv-loop μ-loop
-returns c = withdrawing-done (c .before .before .pre) (c .before .loop .inv) (c .loop-test .left)
+returns c =
+    let at = c .before .loop .inv in
+    (withdrawing-done (c .before .before .pre) (at .0) (c .loop-test .left), at .1)
 
 pub withdraw-spec : {M : Type 1} → statement M
 withdraw-spec =

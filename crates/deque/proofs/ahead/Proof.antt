@@ -6,18 +6,21 @@ use native.Mathlib.Omega.{arith}
 use denote.Ref.{now}
 use lib.Dec.{ltb}
 use Rattle.model.specs.Tests.{every}
-use Rattle.deque.specs.View.{walk}
-use Rattle.deque.specs.Steps.{link-after}
+use Rattle.memory.specs.Parts.{parts}
+use Rattle.memory.specs.View.{walk}
+use Rattle.deque.specs.Links.{link-after}
+use Rattle.memory.proofs.Regions.{next-at}
 use Rattle.deque.proofs.Walks.{Link, follow}
 use Rattle.deque.proofs.ahead.Statement.{statement}
 use Rattle.deque.proofs.ahead.Tie as tie
 
 abbrev Inv-loop : tie.InvT-loop
-Inv-loop next front steps task₀ left₀ task left =
-    (every (λ t. ltb t 1024) (walk next task left) ≡ true) × (link-after next task left ≡ link-after next front steps)
+Inv-loop memory front steps task₀ left₀ task left =
+    (every (λ t. ltb t 1024) (walk (parts memory .next) task left) ≡ true) ×
+    (link-after (parts memory .next) task left ≡ link-after (parts memory .next) front steps)
 
 abbrev μ-loop : tie.MeasureT-loop
-μ-loop next front steps task₀ left₀ task left = left
+μ-loop memory front steps task₀ left₀ task left = left
 
 loop-holds : tie.Need-loop-holds Inv-loop μ-loop
 loop-holds c = (c .pre, refl)
@@ -26,8 +29,12 @@ wide-requires : tie.Need-wide-requires Inv-loop μ-loop
 wide-requires c κs = tt
 
 -- the link that a turn follows
-link : (c : tie.In-loop Inv-loop μ-loop) → Link (now (c .before .before .args .next)) (c .before .loop .task) (c .before .loop .left)
+link : (c : tie.In-loop Inv-loop μ-loop) →
+    Link (parts (now (c .before .before .args .memory)) .next) (c .before .loop .task) (c .before .loop .left)
 link c = follow _ _ _ (c .loop-test .taken) (c .before .loop .inv .0)
+
+add-at : tie.Need-add-at Inv-loop μ-loop
+add-at c = let l = link (c .before) in omega arith
 
 mul-task : tie.Need-mul-task Inv-loop μ-loop
 mul-task c = let l = link (c .before) in omega arith
@@ -44,8 +51,9 @@ loop-less c = omega arith
 loop-again : tie.Need-loop-again Inv-loop μ-loop
 loop-again c =
     let l = link (c .before .before) in
-    let inv = c .before .before .before .loop .inv in
-    rw (c .before .wide .ensures) (l .onward, sym (l .same) ∙ inv .1)
+    let turn = c .before .before .before in
+    rw (c .before .wide .ensures, next-at (now (turn .before .args .memory)) (turn .loop .task) (l .here))
+    (l .onward, sym (l .same) ∙ turn .loop .inv .1)
 
 returns : tie.Need-returns Inv-loop μ-loop
 unfolding link-after
@@ -61,6 +69,7 @@ ahead-spec =
     μ-loop
     loop-holds
     wide-requires
+    add-at
     mul-task
     element-copy-out-task
     sub-left

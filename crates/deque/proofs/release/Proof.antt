@@ -3,7 +3,8 @@ use borrow.Author.Needs.{needs}
 use mathlib.Core.Path.{_∙_}
 use native.Mathlib.Omega.{arith}
 use denote.Ref.{now}
-use Rattle.deque.proofs.Releases.{released-none, released-later, released-now}
+use Rattle.deque.proofs.Stores.{awaits-at, in-later, in-now}
+use Rattle.deque.proofs.Releases.{released-none}
 use Rattle.deque.proofs.release.Statement.{statement}
 use Rattle.deque.proofs.release.Tie as tie
 
@@ -11,33 +12,47 @@ wide-requires : tie.Need-wide-requires
 wide-requires c κs = search needs
 
 returns : tie.Need-returns
-returns c = released-none (now (c .before .before .args .pending)) (now (c .before .before .args .next)) (c .before .before .args .task) (c .before .before .args .deque) (c .before .wide .ensures) (c .if1 .taken)
+returns c = released-none _ _ _ (c .before .wide .ensures) (c .if1 .taken)
+
+add-pending-at : tie.Need-add-pending-at
+add-pending-at c = search needs
+
+mul-awaited : tie.Need-mul-awaited
+mul-awaited c = search needs
 
 element-copy-out-awaited : tie.Need-element-copy-out-awaited
 element-copy-out-awaited c = search needs
 
-sub-pending : tie.Need-sub-pending
-sub-pending c =
-    let same = c .before .before .wide .ensures in
-    rw same (c .before .before .before .pre .awaits (λ z. c .before .if1 .left (same ∙ z)))
+sub-memory : tie.Need-sub-memory
+sub-memory c = awaits-at _ (c .before .before .before .pre) (c .before .before .wide .ensures) (c .before .if1 .left)
 
-element-write-pending : tie.Need-element-write-pending
-element-write-pending c = search needs
+mul-memory : tie.Need-mul-memory
+mul-memory c = search needs
+
+element-write-memory : tie.Need-element-write-memory
+element-write-memory c = search needs
 
 returns-2 : tie.Need-returns-2
-returns-2 c = released-later _ _ _ _ (c .before .before .before .wide .ensures) (c .before .before .if1 .left) (omega (arith, c .if2 .taken))
+returns-2 c =
+    let shown = c .before .before in
+    in-later _ (shown .before .before .pre) (shown .before .wide .ensures) (shown .if1 .left) (omega (arith, c .if2 .taken))
 
-mul-next : tie.Need-mul-next
-mul-next c = search needs
+add-next-at : tie.Need-add-next-at
+add-next-at c = search needs
 
-element-write-next : tie.Need-element-write-next
-element-write-next c = search needs
+mul-memory-2 : tie.Need-mul-memory-2
+mul-memory-2 c = search needs
 
-add-t16 : tie.Need-add-t16
-add-t16 c = search needs
+element-write-memory-2 : tie.Need-element-write-memory-2
+element-write-memory-2 c = search needs
+
+add-t12 : tie.Need-add-t12
+add-t12 c = search needs
 
 returns-3 : tie.Need-returns-3
-returns-3 c = released-now _ _ _ _ (c .before .before .before .before .before .pre) (c .before .before .before .before .wide .ensures) (c .before .before .before .if1 .left) (omega (arith, c .before .if2 .left))
+returns-3 c =
+    let shown = c .before .before .before in
+    in-now _ (shown .before .before .pre) (shown .before .wide .ensures) (shown .if1 .left) (omega (arith, c .before .if2 .left))
 
 pub release-spec : {M : Type 1} → statement M
 release-spec =
@@ -45,11 +60,15 @@ release-spec =
     (tie.spec
     wide-requires
     returns
+    add-pending-at
+    mul-awaited
     element-copy-out-awaited
-    sub-pending
-    element-write-pending
+    sub-memory
+    mul-memory
+    element-write-memory
     returns-2
-    mul-next
-    element-write-next
-    add-t16
+    add-next-at
+    mul-memory-2
+    element-write-memory-2
+    add-t12
     returns-3)

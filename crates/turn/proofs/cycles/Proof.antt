@@ -1,148 +1,177 @@
--- `turn::cycles` meets its contract. The loop's invariant: the model's cycles of all workers are those of the workers that are left, from what
--- the arrays show now, and the job is not finished. The measure is how many workers are left.
-use mathlib.Core.Path.{_≡_, ap, sym, _∙_}
+-- `turn::cycles` meets its contract. The loop's invariant: the model's cycles of all workers are those of the workers that are left, from
+-- what memory and words show now, and the job is not finished. The measure is how many workers are left.
+use mathlib.Core.Path.{_≡_, ap}
 use mathlib.Core.Logic.{⊎-elim}
 use Prim.Native.Nat.{_+_, _-_, _<_}
 use native.Mathlib.Omega.{arith}
 use borrow.Author.Needs.{needs}
-use lib.ListN.{length}
-use Rattle.deque.specs.declared.Deque.{Deque}
+use denote.Ref.{now}
+use lib.ListN.{length, getD}
+use Rattle.cycle_counts.specs.declared.WorkCycles.{WorkCycles}
+use Rattle.memory.specs.Parts.{parts}
+use Rattle.memory.specs.Words.{numbers-in}
+use Rattle.memory.specs.View.{size-at}
+use Rattle.memory.proofs.Regions.{ends-part-at}
 use Rattle.turn.specs.Turns.{numbers-at}
-use Rattle.turn.proofs.Cycling.{worker-place, work-turn, cycled-work}
-use Rattle.turn.proofs.Ticking.{Underway, begin, some-left, few-choices, tick-finished, tick-over, next-turn, onward, addable}
+use Rattle.turn.proofs.Tallying.{growing}
+use Rattle.turn.proofs.Ticking.{Underway, begin, some-left, few-choices, room-now, addable, tick-finished, tick-over}
+use Rattle.turn.proofs.Ticking.{work-turn, idle-turn, onward-work, onward-idle}
 use Rattle.turn.proofs.cycles.Statement.{statement}
 use Rattle.turn.proofs.cycles.Tie as tie
 
 abbrev Inv-loop : tie.InvT-loop
-Inv-loop first second pending₀ next₀ ends₀ choices m left t₀ w₀ pending next ends t w =
-    Underway first second pending₀ next₀ ends₀ m choices pending next ends (numbers-at m t) w × (t .works .0 ≡ left → ⊥)
+Inv-loop memory₀ words₀ choices left t₀ w₀ memory words t w =
+    Underway memory₀ words₀ choices memory words t w
+    × (numbers-at (numbers-in words) w t .done ≡ numbers-at (numbers-in words) w t .tasks → ⊥)
 
 abbrev μ-loop : tie.MeasureT-loop
-μ-loop first second pending₀ next₀ ends₀ choices m left t₀ w₀ pending next ends t w = length choices - w
+μ-loop memory₀ words₀ choices left t₀ w₀ memory words t w = length choices - w
 
--- ---- the places that the needs speak of: the function's entry, from the loop's head, and the worker's deque of this turn
+-- ---- the places that the needs speak of: the function's entry, from the loop's head, and the turn of one worker
 
 abbrev entry : tie.At-loop Inv-loop μ-loop → tie.Start Inv-loop μ-loop
-entry c = c .before .before .before .before
+entry c = c .before .before .before .before .before
 
-abbrev own : tie.After-work-cycle-arg3 Inv-loop μ-loop → tie.After-deque-at Inv-loop μ-loop
-own c = c .before .before .before .before .before
+abbrev worked : tie.After-work-cycle Inv-loop μ-loop → tie.After-if12 Inv-loop μ-loop
+worked c = c .before .before .before
 
-abbrev worked : tie.After-work-cycle Inv-loop μ-loop → tie.After-deque-at Inv-loop μ-loop
-worked c = own (c .before)
+-- the size of the worker's own deque, as the code reads it
+own-size : (c : tie.In-loop Inv-loop μ-loop) → let here = c .before .loop in
+    getD (here .memory) (4096 + size-at (here .w)) 0 ≡ getD (parts (here .memory) .ends) (size-at (here .w)) 0
+own-size c =
+    let here = c .before .loop in
+    ends-part-at (here .memory) (size-at (here .w)) (omega (arith, c .loop-test .taken, few-choices (entry (c .before) .pre)))
 
-abbrev head : tie.After-deque-at Inv-loop μ-loop → tie.At-loop Inv-loop μ-loop
-head c = c .before .before .before
+-- the tick after a work cycle
+stepped : (c : tie.After-add-work Inv-loop μ-loop) →
+    let head = worked (c .before) .before .before in
+    Underway (now (entry head .args .memory)) (now (entry head .args .words)) (now (entry head .args .choices))
+    (c .before .work-cycle .last .0) (head .loop .words) (c .add-work .result) (head .loop .w + 1)
+stepped c =
+    let at = worked (c .before) .before in
+    let head = at .before in
+    let some : 0 < getD (parts (head .loop .memory) .ends) (size-at (head .loop .w)) 0 =
+    omega (arith, own-size at, c .before .before .before .if1 .taken) in
+    onward-work (entry head .pre) (head .loop .inv .0) (at .loop-test .taken) some
+    (head .loop .inv .1) (c .before .work-cycle .ensures _) (c .add-work .ensures)
 
-abbrev left : tie.After-deque-at Inv-loop μ-loop → tie.In-loop Inv-loop μ-loop
-left c = c .before .before
+element-copy-out-left : tie.Need-element-copy-out-left Inv-loop μ-loop
+element-copy-out-left c = search needs
 
-some-task : (c : tie.After-work-cycle Inv-loop μ-loop) → 0 < worked c .deque-at .result .size
-some-task c = omega (arith, c .before .before .before .before .if1 .taken)
+element-copy-out-left-2 : tie.Need-element-copy-out-left-2 Inv-loop μ-loop
+element-copy-out-left-2 c = search needs
 
 sub-left : tie.Need-sub-left Inv-loop μ-loop
-sub-left c =
-    some-left (c .before .before .pre)
-
-cast-left : tie.Need-cast-left Inv-loop μ-loop
-cast-left c =
-    omega arith
+sub-left c = some-left (c .before .before .before .pre)
 
 no-tally-requires : tie.Need-no-tally-requires Inv-loop μ-loop
 no-tally-requires c κs = search needs
 
 loop-holds : tie.Need-loop-holds Inv-loop μ-loop
 loop-holds c =
-    let tick = c .before .before .before .pre in
-    rw (c .no-tally .ensures) (begin tick, λ none-left. tick .unfinished (omega (arith, some-left tick, none-left)))
+    let tick = c .before .before .before .before .pre in
+    rw (c .no-tally .ensures) (begin tick, λ all. tick .unfinished (omega (arith, all)))
 
-deque-at-requires : tie.Need-deque-at-requires Inv-loop μ-loop
-deque-at-requires c κs =
-    let here = c .before .before in
-    worker-place (next-turn (entry here .pre) (here .loop .inv .0) (c .before .loop-test .taken))
+mul-size-at : tie.Need-mul-size-at Inv-loop μ-loop
+mul-size-at c = omega (arith, c .loop-test .taken, few-choices (entry (c .before) .pre))
+
+add-size-at : tie.Need-add-size-at Inv-loop μ-loop
+add-size-at c = omega (arith, c .loop-test .taken, few-choices (entry (c .before) .pre))
+
+add-size-at-2 : tie.Need-add-size-at-2 Inv-loop μ-loop
+add-size-at-2 c = omega (arith, c .loop-test .taken, few-choices (entry (c .before) .pre))
+
+mul-if1 : tie.Need-mul-if1 Inv-loop μ-loop
+mul-if1 c = omega (arith, c .loop-test .taken, few-choices (entry (c .before) .pre))
+
+element-copy-out-if1 : tie.Need-element-copy-out-if1 Inv-loop μ-loop
+element-copy-out-if1 c = omega (arith, c .loop-test .taken, few-choices (entry (c .before) .pre))
 
 work-cycle-requires : tie.Need-work-cycle-requires Inv-loop μ-loop
 work-cycle-requires c κs =
-    let here = head (own c) in
-    (entry here .args .m, work-turn (next-turn (entry here .pre) (here .loop .inv .0) (left (own c) .loop-test .taken)) (own c .deque-at .ensures) (omega (arith, c .before .before .before .if1 .taken)))
+    let at = c .before .before .before in
+    let head = at .before in
+    (_, work-turn (entry head .pre) (head .loop .inv .0) (at .loop-test .taken) (omega (arith, own-size at, c .before .if1 .taken)))
+
+add-work-requires : tie.Need-add-work-requires Inv-loop μ-loop
+add-work-requires c κs =
+    let at = worked c .before .before in
+    growing (numbers-in (at .loop .words)) (at .loop .w) (at .loop .t) (room-now (entry at .pre) (at .loop .inv .0))
 
 number-requires : tie.Need-number-requires Inv-loop μ-loop
 number-requires c κs = search needs
 
-numbers-at-requires : tie.Need-numbers-at-requires Inv-loop μ-loop
-numbers-at-requires c κs =
-    let cycle = c .before .before .before in
-    let here = head (worked cycle) in
-    let tick = entry here .pre in
-    let l = left (worked cycle) .loop-test .taken in
-    addable tick _
-    (onward tick (here .loop .inv .0) l (λ all. here .loop .inv .1 (omega (arith, all)))
-    (cycled-work (next-turn tick (here .loop .inv .0) l) (worked cycle .deque-at .ensures) (some-task cycle) (cycle .work-cycle .ensures _)))
+add-settle : tie.Need-add-settle Inv-loop μ-loop
+add-settle c =
+    let at = worked (c .before .before .before .before .before) .before in
+    omega (arith, at .loop-test .taken, few-choices (entry (at .before) .pre))
+
+settle-requires : tie.Need-settle-requires Inv-loop μ-loop
+settle-requires c κs =
+    let step = c .before .before .before .before in
+    addable (entry (worked (step .before) .before .before) .pre) (stepped step)
 
 returns : tie.Need-returns Inv-loop μ-loop
 returns c =
-    let cycle = c .before .before .before .before in
-    let here = head (worked cycle) in
-    let tick = entry here .pre in
-    let l = left (worked cycle) .loop-test .taken in
-    rw (c .numbers-at .ensures)
-    (tick-finished tick
-    (onward tick (here .loop .inv .0) l (λ all. here .loop .inv .1 (omega (arith, all)))
-    (cycled-work (next-turn tick (here .loop .inv .0) l) (worked cycle .deque-at .ensures) (some-task cycle) (cycle .work-cycle .ensures _)))
-    (omega (arith, some-left tick, c .before .if2 .taken, c .before .before .number .ensures)))
+    let step = c .before .before .before .before .before in
+    let head = worked (step .before) .before .before in
+    let tick = entry head .pre in
+    let same = head .loop .inv .0 .same-words .same-others in
+    let counted = c .before .before .before .number .ensures in
+    tick-finished tick (stepped step) (c .settle .ensures)
+    (omega (arith, some-left tick, c .before .before .if2 .taken, counted, same 0 (λ e. omega arith), same 2 (λ e. omega arith)))
 
 shared-slice-read-choice : tie.Need-shared-slice-read-choice Inv-loop μ-loop
-shared-slice-read-choice c = c .before .before .before .before .before .loop-test .taken
+shared-slice-read-choice c = c .before .before .before .loop-test .taken
 
 cast-choice : tie.Need-cast-choice Inv-loop μ-loop
-cast-choice c = omega (arith, c .shared-slice-known2 .given (c .before .before .before .before .before .before .loop .w))
+cast-choice c = omega (arith, c .shared-slice-known2 .given (c .before .before .before .before .loop .w))
 
 idle-cycle-requires : tie.Need-idle-cycle-requires Inv-loop μ-loop
 idle-cycle-requires c κs =
     let at = c .before .before .before .before .before in
-    let here = head at in (
-      entry here .pre .sound .kept .head-in-ring,
-      record { first = _; second = _; pending = _; turn = next-turn (entry here .pre) (here .loop .inv .0) (left at .loop-test .taken) },
-    )
+    let head = at .before in
+    idle-turn (entry head .pre) (head .loop .inv .0) (at .loop-test .taken)
+    (omega (arith, own-size at, c .before .before .before .if1 .left))
 
 add-w : tie.Need-add-w Inv-loop μ-loop
-add-w c =
-    let at = c .before .before in
-    omega (arith, left at .loop-test .taken, few-choices (entry (head at) .pre))
+add-w c = omega (arith, c .before .before .loop-test .taken, few-choices (entry (c .before .before .before) .pre))
 
 loop-less : tie.Need-loop-less Inv-loop μ-loop
-loop-less c = omega (arith, left (c .before .before) .loop-test .taken)
+loop-less c = omega (arith, c .before .before .loop-test .taken)
 
 loop-again : tie.Need-loop-again Inv-loop μ-loop
 loop-again c =
     let at = c .before .before in
-    let here = head at in
-    let tick = entry here .pre in
-    let l = left at .loop-test .taken in
-    let turn = next-turn tick (here .loop .inv .0) l in
+    let head = at .before in
+    let tick = entry head .pre in
+    let l = at .loop-test .taken in
+    let u = head .loop .inv .0 in
+    let same = u .same-words .same-others in
     ⊎-elim
     (λ way.
-    rw (way .8, way .9, way .10, way .11) (
-      onward tick (here .loop .inv .0) l (λ all. here .loop .inv .1 (omega (arith, all)))
-          (cycled-work turn (at .deque-at .ensures) (omega (arith, way .0 .taken)) (way .4 .ensures _)),
-      λ all. way .7 .left (way .6 .ensures ∙ all),
+    rw (way .7, way .8, way .9) (
+      onward-work tick u l (omega (arith, own-size at, way .0 .taken)) (head .loop .inv .1) (way .2 .ensures _) (way .3 .ensures),
+      λ all. way .6 .left (omega (arith, all, way .5 .ensures, same 0 (λ e. omega arith), same 2 (λ e. omega arith))),
     ))
     (λ way.
-    let idle = way .4 .ensures in
-    rw (way .5, way .6, way .7, way .8) (
-      onward tick (here .loop .inv .0) l (λ all. here .loop .inv .1 (omega (arith, all)))
-          (idle .cycled _ _ _ turn (omega (arith, ap (λ (d : Deque). d .size) (at .deque-at .ensures), way .0 .left))),
-      λ all. here .loop .inv .1 (omega (arith, idle .same-done, all)),
+    let idled = way .4 .ensures in
+    let others = idled .same-words .same-others in
+    rw (way .5, way .6, way .7) (
+      onward-idle tick u l (head .loop .inv .1) idled,
+      λ all.
+          head .loop .inv .1
+          (omega (arith, all, ap (λ (n : WorkCycles). n .0) (idled .same-works), others 0 (λ e. omega arith), others 2 (λ e. omega arith))),
     ))
     (c .if1 .came)
 
-numbers-at-requires-2 : tie.Need-numbers-at-requires-2 Inv-loop μ-loop
-numbers-at-requires-2 c κs = addable (entry (c .before) .pre) _ (c .before .loop .inv .0)
+settle-requires-2 : tie.Need-settle-requires-2 Inv-loop μ-loop
+settle-requires-2 c κs = addable (entry (c .before .before) .pre) (c .before .before .loop .inv .0)
 
 returns-2 : tie.Need-returns-2 Inv-loop μ-loop
 returns-2 c =
-    let here = c .before .before in
-    rw (c .numbers-at2 .ensures) (tick-over (entry here .pre) (here .loop .inv .0) (c .before .loop-test .left))
+    let at = c .before .before .before in
+    tick-over (entry at .pre) (at .loop .inv .0) (c .settle2 .ensures) (c .before .before .loop-test .left)
 
 pub cycles-spec : {M : Type 1} → statement M
 cycles-spec =
@@ -150,14 +179,21 @@ cycles-spec =
     (tie.spec
     Inv-loop
     μ-loop
+    element-copy-out-left
+    element-copy-out-left-2
     sub-left
-    cast-left
     no-tally-requires
     loop-holds
-    deque-at-requires
+    mul-size-at
+    add-size-at
+    add-size-at-2
+    mul-if1
+    element-copy-out-if1
     work-cycle-requires
+    add-work-requires
     number-requires
-    numbers-at-requires
+    add-settle
+    settle-requires
     returns
     shared-slice-read-choice
     cast-choice
@@ -165,5 +201,5 @@ cycles-spec =
     add-w
     loop-less
     loop-again
-    numbers-at-requires-2
+    settle-requires-2
     returns-2)

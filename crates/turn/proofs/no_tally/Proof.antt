@@ -10,11 +10,8 @@ none-requires c κs = search needs
 none-requires-2 : tie.Need-none-requires-2
 none-requires-2 c κs = search needs
 
-none-requires-3 : tie.Need-none-requires-3
-none-requires-3 c κs = search needs
-
 returns : tie.Need-returns
-returns c = rw (c .before .before .none .ensures, c .before .none2 .ensures, c .none3 .ensures) refl
+returns c = rw (c .before .none .ensures, c .none2 .ensures) refl
 
 pub no-tally-spec : {M : Type 1} → statement M
-no-tally-spec = tie.close (tie.spec none-requires none-requires-2 none-requires-3 returns)
+no-tally-spec = tie.close (tie.spec none-requires none-requires-2 returns)
