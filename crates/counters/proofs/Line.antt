@@ -63,8 +63,8 @@ pub record Wide (k : Counters) : Type 0 where
 -- "Has its buffer 128 bytes or more?" is always enough
 pub line-within : (k : Counters) → Wide k → length (spaced (numbers-of k)) ≤ 127
 line-within k w =
-    ten-within _ _ _ _ _ _ _ _ _ _ (status-small (k .status)) (w .worked) (w .tasks) (w .desire) (w .allotment) (w .work) (w .mug) (w .steal)
-    (w .successes) (w .refusals)
+    ten-within _ _ _ _ _ _ _ _ _ _ (status-small (k .status)) (w .worked) (w .tasks) (w .desire) (w .allotment) (w .work) (w .mug)
+    (w .steal) (w .successes) (w .refusals)
 
 -- the line has room, and once it is written the promises hold
 module _ (k : Counters) (buffer ten : List ℕ) (same : ten ≡ numbers-of k) (enough : 128 ≤ length buffer) where

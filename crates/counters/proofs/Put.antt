@@ -80,13 +80,13 @@ pub piece-room : (at : ℕ) (x : List ℕ) (end : ℕ) (b : List ℕ) → at + l
 piece-room at x end b room = omega (arith, length-append x (end ∷ []))
 
 -- a piece, with one byte stored after it
-pub record Ended (at : ℕ) (x : List ℕ) (end : ℕ) (b b' : List ℕ) (next : ℕ) : Type 0 where
+pub record PutUpTo (at : ℕ) (x : List ℕ) (end : ℕ) (b b' : List ℕ) (next : ℕ) : Type 0 where
   pub inside : next < length b'
   pub after : next + 1 ≡ at + length (x ++ (end ∷ []))
   pub bytes : set b' next end ≡ put at (x ++ (end ∷ [])) b
 
 pub ended-at : (at : ℕ) (x : List ℕ) (end : ℕ) (b b' : List ℕ) (next : ℕ) → at + length (x ++ (end ∷ [])) ≤ length b
-    → next ≡ at + length x → b' ≡ put at x b → Ended at x end b b' next
+    → next ≡ at + length x → b' ≡ put at x b → PutUpTo at x end b b' next
 ended-at at x end b b' next room place first =
     let space : at + length x ≤ length b = omega (arith, piece-room at x end b room) in
     let within : at + length x < length (put at x b) = omega (arith, piece-room at x end b room, length-put at x b space) in
@@ -98,7 +98,7 @@ ended-at at x end b b' next room place first =
 
 -- the same of a piece that was put where there is room
 pub ended : (at : ℕ) (x : List ℕ) (end : ℕ) (b b' : List ℕ) (next : ℕ) → at + length (x ++ (end ∷ [])) ≤ length b
-    → next ≡ next-if-room at x b → b' ≡ put-if-room at x b → Ended at x end b b' next
+    → next ≡ next-if-room at x b → b' ≡ put-if-room at x b → PutUpTo at x end b b' next
 ended at x end b b' next room next-is b'-is =
     let fits = has-room at x b (omega (arith, piece-room at x end b room)) in
     ended-at at x end b b' next room (next-is ∙ sym (fits .0)) (b'-is ∙ sym (fits .1))

@@ -13,7 +13,8 @@ use Rattle.counters.proofs.Decimal.{at-most}
 use Rattle.counters.proofs.Put.{length-put, put-append, put-start}
 
 -- a number that is not the last, and a space
-pub spaced-more : (ns : List ℕ) (i : ℕ) → i + 1 < length ns → spaced (drop i ns) ≡ (decimal (getD ns i 0) ++ (32 ∷ [])) ++ spaced (drop (i + 1) ns)
+pub spaced-more : (ns : List ℕ) (i : ℕ) → i + 1 < length ns →
+    spaced (drop i ns) ≡ (decimal (getD ns i 0) ++ (32 ∷ [])) ++ spaced (drop (i + 1) ns)
 unfolding spaced
 spaced-more ns i h =
     let here : i < length ns = omega arith in
@@ -87,8 +88,9 @@ length-spaced n [] = length-append (decimal n) (10 ∷ []) ∙ omega arith
 length-spaced n (m ∷ ns) = length-append (decimal n) (32 ∷ spaced (m ∷ ns)) ∙ omega (arith, length-spaced m ns)
 
 -- ten numbers of these widths take 127 bytes or fewer
-pub ten-within : (status worked tasks desire allotment work mug steal successes refusals : ℕ) → status < 10 → worked < 2 ^ 16 → tasks < 2 ^ 16
-    → desire < 2 ^ 8 → allotment < 2 ^ 8 → work < 2 ^ 64 → mug < 2 ^ 64 → steal < 2 ^ 64 → successes < 2 ^ 64 → refusals < 2 ^ 64
+pub ten-within : (status worked tasks desire allotment work mug steal successes refusals : ℕ) → status < 10
+    → worked < 2 ^ 16 → tasks < 2 ^ 16 → desire < 2 ^ 8 → allotment < 2 ^ 8
+    → work < 2 ^ 64 → mug < 2 ^ 64 → steal < 2 ^ 64 → successes < 2 ^ 64 → refusals < 2 ^ 64
     → length (spaced (status ∷ worked ∷ tasks ∷ desire ∷ allotment ∷ work ∷ mug ∷ steal ∷ successes ∷ refusals ∷ [])) ≤ 127
 unfolding counts
 ten-within status worked tasks desire allotment work mug steal successes refusals h0 h1 h2 h3 h4 h5 h6 h7 h8 h9 =

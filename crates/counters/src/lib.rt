@@ -172,7 +172,8 @@ pub fn numbers(counters: Counters) -> [u64; 10]
 pub fn write_line(counters: Counters, buffer: &mut [u8]) -> LineAnswer
     ensures answer { λ r. ⌜ line-answer r ≡ counters-answer (now (buffer .entry)) ⌝ }
     ensures size { λ r. ⌜ line-length r ≡ by-answer (counters-answer (now (buffer .entry))) (length (spaced (numbers-of counters))) 0 ⌝ }
-    ensures bytes { λ _. ⌜ now (buffer .exit) ≡ by-answer (counters-answer (now (buffer .entry))) (put-at-start (spaced (numbers-of counters)) (now (buffer .entry))) (now (buffer .entry)) ⌝ }
+    ensures bytes { λ _. ⌜ now (buffer .exit) ≡ by-answer (counters-answer (now (buffer .entry)))
+        (put-at-start (spaced (numbers-of counters)) (now (buffer .entry))) (now (buffer .entry)) ⌝ }
 {
     if buffer.len() < 128 {
         return LineAnswer::TooSmall;

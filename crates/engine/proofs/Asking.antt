@@ -1,4 +1,4 @@
--- The questions that the code asks of numbers and flags are the model's, asked of the state that the arrays show.
+-- The questions that the code asks of words are the model's, asked of the state that the job shows.
 -- Assumes nothing.
 use mathlib.Core.Path.{_≡_, refl, _∙_}
 use mathlib.Core.Bool.{Bool, true, false, not}
@@ -8,11 +8,12 @@ use lib.Dec.{eqb}
 use Rattle.model.specs.Tests.{count-set}
 use Rattle.model.specs.Questions.{first-no}
 use Rattle.model.specs.Machine.{finished, no-quantum-open, grant-questions, tick-questions, grants, ticks, call-answer}
-use Rattle.deque.specs.declared.Numbers.{Numbers}
-use Rattle.deque.specs.View.{view, worked-view}
-use Rattle.deque.proofs.Views.{all-counted, flags-shown, workers-shown}
-use Rattle.engine.specs.declared.Course.{Course}
-use Rattle.engine.specs.View.{quantum-view, state-view}
+use Rattle.memory.specs.declared.Job.{Job}
+use Rattle.memory.specs.Parts.{Parts}
+use Rattle.memory.specs.Words.{Numbers, open-in, ticks-in}
+use Rattle.memory.specs.View.{view, worked-view}
+use Rattle.memory.specs.Jobs.{job-parts, job-numbers, quantum-view, job-state}
+use Rattle.memory.proofs.Views.{all-counted, flags-shown, workers-shown}
 use Rattle.engine.specs.Asked.{grant-asked, tick-asked}
 
 -- a quantum is open exactly where the flag says so
@@ -24,17 +25,20 @@ not-open-shown : (b : Bool) (k : ℕ) → not (no-quantum-open (quantum-view b k
 not-open-shown true k = refl
 not-open-shown false k = refl
 
-module _ (pending next ends : List ℕ) (m : Numbers) (done-right : m .done ≡ count-set (worked-view pending (m .tasks))) where
-  -- "finished": the number of worked tasks is that of all tasks
-  pub finished-shown : finished (view pending next ends m) ≡ eqb (m .done) (m .tasks)
-  unfolding finished
-  finished-shown = all-counted (worked-view pending (m .tasks)) ∙ rw (← done-right, flags-shown) refl
+-- "finished": the number of worked tasks is that of all tasks
+pub finished-shown : (p : Parts) (m : Numbers) → m .done ≡ count-set (worked-view (p .pending) (m .tasks)) →
+    finished (view p m) ≡ eqb (m .done) (m .tasks)
+unfolding finished
+finished-shown p m done-right = all-counted (worked-view (p .pending) (m .tasks)) ∙ rw (← done-right, flags-shown) refl
 
-  module _ (c : Course) where
-    pub grant-asking : (g : ℕ) → call-answer (grants g) (state-view pending next ends m c) ≡ first-no (grant-asked m c g)
-    unfolding call-answer grant-questions grant-asked state-view first-no
-    grant-asking g = rw (finished-shown, open-shown (c .«is_open») (c .ticks)) refl
+module _ (job : Job) (done-right : job-numbers job .done ≡ count-set (worked-view (job-parts job .pending) (job-numbers job .tasks))) where
+  pub grant-asking : (g : ℕ) → call-answer (grants g) (job-state job) ≡ first-no (grant-asked (job .words) g)
+  unfolding call-answer grant-questions grant-asked job-state first-no
+  grant-asking g =
+      rw (finished-shown (job-parts job) (job-numbers job) done-right, open-shown (open-in (job .words)) (ticks-in (job .words))) refl
 
-    pub tick-asking : (choices : List ℕ) → call-answer (ticks choices) (state-view pending next ends m c) ≡ first-no (tick-asked m c choices)
-    unfolding call-answer tick-questions tick-asked state-view first-no
-    tick-asking choices = rw (finished-shown, not-open-shown (c .«is_open») (c .ticks)) (simp workers-shown)
+  pub tick-asking : (choices : List ℕ) → call-answer (ticks choices) (job-state job) ≡ first-no (tick-asked (job .words) choices)
+  unfolding call-answer tick-questions tick-asked job-state first-no
+  tick-asking choices =
+      rw (finished-shown (job-parts job) (job-numbers job) done-right, not-open-shown (open-in (job .words)) (ticks-in (job .words)))
+      (simp workers-shown)

@@ -1,102 +1,103 @@
--- The end of a tick: with the tick counted, and the quantum closed where it ends, the numbers beside the execution show the model's state.
+-- The end of a tick: with the tick counted, and the quantum closed where it ends, the words show the model's state.
 -- One law for each way out.
 -- Assumes nothing.
 use mathlib.Core.Path.{_≡_, refl, sym, _∙_}
 use mathlib.Core.Bool.{true, false, not, and-false}
-use mathlib.Core.List.{List}
+use mathlib.Core.List.{List, [], _∷_}
 use Prim.Native.Nat.{ℕ, suc, _+_}
 use native.Mathlib.Numerals.{add-one}
+use native.Mathlib.Omega.{arith}
+use lib.ListN.{length, set}
+use lib.Seq.{getD-set-same, getD-set-other}
 use borrow.Author.Tests.{eq-eqb, ne-eqb}
+use Rattle.model.specs.Tests.{count-set}
 use Rattle.model.specs.Machine.{finished, closes, closed}
 use Rattle.quantum.specs.Closing.{Closed}
-use Rattle.deque.specs.declared.Numbers.{Numbers}
-use Rattle.deque.specs.View.{view}
-use Rattle.deque.proofs.Views.{workers-shown}
-use Rattle.engine.specs.declared.Course.{Course}
-use Rattle.engine.specs.View.{plan-view, state-view}
-use Rattle.engine.specs.Courses.{counted, quantum-ended, SameCourse, CourseTicked}
+use Rattle.memory.specs.Parts.{parts}
+use Rattle.memory.specs.Words.{word, word-count, numbers-in, open-in}
+use Rattle.memory.specs.View.{view, worked-view}
+use Rattle.memory.specs.Jobs.{lent, job-plan, job-state}
+use Rattle.memory.proofs.Views.{workers-shown}
+use Rattle.memory.proofs.Words.{by-words}
+use Rattle.engine.specs.Ending.{tick-counted, quantum-ended, TickEnded}
 use Rattle.engine.proofs.Asking.{finished-shown}
 
--- the tick counted
-abbrev pub counted-course : Course → Course
-counted-course c =
+-- the tick counted, and the quantum closed besides, with the next desire
+abbrev pub counted-words : List ℕ → List ℕ
+counted-words words = set words 16 (word words 16 + 1)
+
+abbrev pub closed-words : List ℕ → ℕ → List ℕ
+closed-words words desire = set (set (counted-words words) 13 desire) 15 0
+
+pub counted-other : (words : List ℕ) (place : ℕ) → (place ≡ 16 → ⊥) → word (counted-words words) place ≡ word words place
+counted-other words place ne = getD-set-other words 16 place (word words 16 + 1) 0 ne
+
+-- where the quantum does not end, the tick is counted and nothing else is written
+stays-open : (words : List ℕ) → length words ≡ word-count → open-in words ≡ true → ((memory : List ℕ) →
+    numbers-in words .done ≡ count-set (worked-view (parts memory .pending) (numbers-in words .tasks)) →
+    closes (job-plan (lent memory words)) (tick-counted (lent memory words)) ≡ false) → TickEnded words (counted-words words)
+unfolding job-state quantum-ended job-plan
+stays-open =
+    by-words
+    (λ (l : List ℕ). open-in l ≡ true → ((memory : List ℕ) →
+    numbers-in l .done ≡ count-set (worked-view (parts memory .pending) (numbers-in l .tasks)) →
+    closes (job-plan (lent memory l)) (tick-counted (lent memory l)) ≡ false) → TickEnded l (counted-words l))
+    (λ w0 w1 w2 w3 w4 w5 w6 w7 w8 w9 w10 w11 w12 w13 w14 w15 w16 w17 is-open unclosed.
     record {
-      responsiveness = c .responsiveness;
-      utilization = c .utilization;
-      «quantum_length» = c .«quantum_length»;
-      desire = c .desire;
-      started = c .started;
-      «is_open» = c .«is_open»;
-      ticks = c .ticks + 1;
-      begun = c .begun;
-    }
+      shows = λ memory right. rw (unclosed memory right, is-open, add-one) refl;
+      same-size = refl;
+      same-numbers = refl;
+      same-plan = λ memory. refl;
+    })
 
--- the quantum closed besides, with the next desire
-abbrev pub closed-course : Course → ℕ → Course
-closed-course c desire =
-    record {
-      responsiveness = c .responsiveness;
-      utilization = c .utilization;
-      «quantum_length» = c .«quantum_length»;
-      desire = desire;
-      started = c .started;
-      «is_open» = false;
-      ticks = c .ticks + 1;
-      begun = c .begun;
-    }
-
--- what stays, field by field
-pub the-same : {c r : Course} → r .responsiveness ≡ c .responsiveness → r .utilization ≡ c .utilization →
-    r .«quantum_length» ≡ c .«quantum_length» → r .started ≡ c .started → r .begun ≡ c .begun → SameCourse c r
-the-same a b d e f =
-    record { same-responsiveness = a; same-utilization = b; same-length = d; same-started = e; same-begun = f }
-
-module _ (m : Numbers) (c : Course) (is-open : c .«is_open» ≡ true) where
-  -- where the quantum does not end
-  stays-open : (first second pending next ends : List ℕ) →
-      closes (plan-view first second (m .tasks) c) (counted (view pending next ends m) c) ≡ false →
-      state-view pending next ends m (counted-course c)
-      ≡ quantum-ended (plan-view first second (m .tasks) c) (counted (view pending next ends m) c)
-  unfolding state-view quantum-ended
-  stays-open first second pending next ends h = rw (h, is-open, add-one) refl
-
+module _ (words : List ℕ) (sized : length words ≡ word-count) (is-open : open-in words ≡ true) where
   -- the job is finished: the quantum never closes
-  pub finished-ticked : m .done ≡ m .tasks → CourseTicked m c (counted-course c)
-  unfolding closes plan-view
-  finished-ticked all-done =
-      record {
-        same-course = the-same refl refl refl refl refl;
-        shows = λ first second pending next ends right.
-            stays-open first second pending next ends
-            (rw (finished-shown pending next ends m right, eq-eqb (m .done) (m .tasks) all-done) refl);
-      }
+  pub finished-ended : word (counted-words words) 2 ≡ word (counted-words words) 0 → TickEnded words (counted-words words)
+  unfolding closes job-plan
+  finished-ended all-done =
+      let same : word words 2 ≡ word words 0 =
+      sym (counted-other words 2 (λ e. omega arith)) ∙ all-done ∙ counted-other words 0 (λ e. omega arith) in
+      stays-open words sized is-open
+      (λ memory right. rw (finished-shown (parts memory) (numbers-in words) right, eq-eqb (word words 2) (word words 0) same) refl)
 
   -- more ticks are due
-  pub unclosed-ticked : (c .ticks + 1 ≡ c .«quantum_length» → ⊥) → CourseTicked m c (counted-course c)
-  unfolding closes plan-view
-  unclosed-ticked more =
-      record {
-        same-course = the-same refl refl refl refl refl;
-        shows = λ first second pending next ends right.
-            stays-open first second pending next ends
-            (rw (ne-eqb (suc (c .ticks)) (c .«quantum_length») (λ h. more (add-one (c .ticks) ∙ h))) (and-false (not (finished (view pending next ends m)))));
-      }
+  pub unclosed-ended : (word (counted-words words) 16 ≡ word (counted-words words) 12 → ⊥) → TickEnded words (counted-words words)
+  unfolding closes job-plan
+  unclosed-ended more =
+      let ticks : word (counted-words words) 16 ≡ suc (word words 16) =
+      getD-set-same words 16 (word words 16 + 1) 0 (omega arith) ∙ add-one (word words 16) in
+      let its-length : word (counted-words words) 12 ≡ word words 12 = counted-other words 12 (λ e. omega arith) in
+      stays-open words sized is-open
+      (λ memory right.
+      rw (ne-eqb (suc (word words 16)) (word words 12) (λ same. more (ticks ∙ same ∙ sym its-length)))
+      (and-false (not (finished (view (parts memory) (numbers-in words))))))
 
-  -- the quantum closes
-  pub closed-ticked : (m .done ≡ m .tasks → ⊥) → c .ticks + 1 ≡ c .«quantum_length» → (desire : ℕ) →
-      Closed (c .responsiveness) (c .utilization) (c .«quantum_length») (c .desire) (m .workers) (m .usage) desire →
-      CourseTicked m c (closed-course c desire)
-  unfolding state-view quantum-ended closes closed plan-view
-  closed-ticked undone last desire after =
-      record {
-        same-course = the-same refl refl refl refl refl;
-        shows = λ first second pending next ends right.
-            rw (
-              finished-shown pending next ends m right,
-              ne-eqb (m .done) (m .tasks) undone,
-              eq-eqb (suc (c .ticks)) (c .«quantum_length») (sym (add-one (c .ticks)) ∙ last),
-              workers-shown,
-              after .next (plan-view first second (m .tasks) c) refl (record { at-utilization = refl; at-length = refl }),
-            )
-            refl;
-      }
+-- the quantum closes
+pub closed-ended : (words : List ℕ) → length words ≡ word-count → (word (counted-words words) 2 ≡ word (counted-words words) 0 → ⊥) →
+    word (counted-words words) 16 ≡ word (counted-words words) 12 → (desire : ℕ) →
+    Closed (word (counted-words words) 10) (word (counted-words words) 11) (word (counted-words words) 12) (word (counted-words words) 13)
+    (word (counted-words words) 1) (word (counted-words words) 7) desire → TickEnded words (closed-words words desire)
+unfolding job-state quantum-ended closes closed job-plan
+closed-ended words sized undone last desire after =
+    by-words
+    (λ (l : List ℕ). let counted = counted-words l in
+    (word counted 2 ≡ word counted 0 → ⊥) → word counted 16 ≡ word counted 12 →
+    Closed (word counted 10) (word counted 11) (word counted 12) (word counted 13) (word counted 1) (word counted 7) desire →
+    TickEnded l (closed-words l desire))
+    (λ w0 w1 w2 w3 w4 w5 w6 w7 w8 w9 w10 w11 w12 w13 w14 w15 w16 w17 left end next.
+    record {
+      shows = λ memory right.
+          rw (
+            finished-shown (parts memory)
+                (numbers-in (w0 ∷ w1 ∷ w2 ∷ w3 ∷ w4 ∷ w5 ∷ w6 ∷ w7 ∷ w8 ∷ w9 ∷ w10 ∷ w11 ∷ w12 ∷ w13 ∷ w14 ∷ w15 ∷ w16 ∷ w17 ∷ [])) right,
+            ne-eqb w2 w0 left,
+            eq-eqb (suc w16) w12 (sym (add-one w16) ∙ end),
+            workers-shown,
+            next .next,
+          )
+          refl;
+      same-size = refl;
+      same-numbers = refl;
+      same-plan = λ memory. refl;
+    })
+    words sized undone last after

@@ -1,22 +1,25 @@
--- What is known of a job that calls reach: the laws of histories, said of its arrays and numbers.
+-- What is known of a job that calls reach: the laws of histories, said of its memory and words; and so the widths that its words fit.
 -- Assumes nothing.
 use mathlib.Core.Path.{_≡_, ap}
 use mathlib.Core.List.{List}
-use Prim.Native.Nat.{ℕ, _≤_}
-use Rattle.model.specs.Plan.{Plan, tasks}
+use Prim.Native.Nat.{_≤_}
+use native.Mathlib.Omega.{arith}
+use Rattle.model.specs.Plan.{Plan}
 use Rattle.model.specs.Machine.{State, Call}
 use Rattle.model.specs.History.{run}
 use Rattle.model.specs.Statements.{SoundPlan}
 use Rattle.laws.specs.Reached.{Arranged, Measured, CountsFit}
+use Rattle.lists.proofs.Lists.{count-set-at-most}
 use Rattle.laws.proofs.Theorems.{arranged, measured, counts-fit, desire-is-power}
 use Rattle.plan.specs.Rules.{WithinBounds}
 use Rattle.plan.proofs.Sound.{accepted-sound, within-bounds}
 use Rattle.quantum.specs.Closing.{Power}
-use Rattle.deque.specs.declared.Numbers.{Numbers}
-use Rattle.deque.proofs.Views.{tasks-shown}
-use Rattle.engine.specs.declared.Course.{Course}
-use Rattle.engine.specs.View.{plan-view, state-view}
-use Rattle.engine.specs.Reached.{AcceptedPlan, Reached}
+use Rattle.memory.specs.declared.Job.{Job}
+use Rattle.memory.specs.Words.{terms-in, desire-in}
+use Rattle.memory.specs.View.{worked-view}
+use Rattle.memory.specs.Jobs.{job-parts, job-numbers, job-plan, job-state}
+use Rattle.memory.proofs.Views.{tasks-shown, flags-shown, workers-shown}
+use Rattle.engine.specs.Reached.{AcceptedPlan, Reached, IsJob, InRange}
 
 module _ {plan : Plan} (a : AcceptedPlan plan) where
   pub plan-sound : SoundPlan plan
@@ -25,46 +28,61 @@ module _ {plan : Plan} (a : AcceptedPlan plan) where
   pub plan-bounds : WithinBounds plan
   plan-bounds = rw (a .given) (within-bounds (a .bytes))
 
-module _ {plan : Plan} {calls : List Call} {first second pending next ends : List ℕ} {m : Numbers} {c : Course}
-    (r : Reached plan calls first second pending next ends m c) where
-  abbrev shown-plan : Plan
-  shown-plan = plan-view first second (m .tasks) c
-
-  abbrev shown-state : State
-  shown-state = state-view pending next ends m c
-
-  pub known-sound : SoundPlan shown-plan
+module _ {plan : Plan} {calls : List Call} {job : Job} (r : Reached plan calls job) where
+  pub known-sound : SoundPlan (job-plan job)
   known-sound = rw (r .its-plan) (plan-sound (r .accepted-plan))
 
-  pub known-bounds : WithinBounds shown-plan
+  pub known-bounds : WithinBounds (job-plan job)
   known-bounds = rw (r .its-plan) (plan-bounds (r .accepted-plan))
 
-  pub known-arranged : Arranged shown-plan shown-state
+  pub known-arranged : Arranged (job-plan job) (job-state job)
   known-arranged = rw (r .its-plan, r .its-state) (arranged (plan-sound (r .accepted-plan)) calls)
 
-  pub known-measured : Measured shown-plan shown-state
+  pub known-measured : Measured (job-plan job) (job-state job)
   known-measured = rw (r .its-plan, r .its-state) (measured (plan-sound (r .accepted-plan)) calls)
 
-  pub known-numbers : CountsFit shown-state
+  pub known-numbers : CountsFit (job-state job)
   known-numbers =
       let bounds = plan-bounds (r .accepted-plan) in
       rw (r .its-state) (counts-fit (plan-sound (r .accepted-plan)) calls (bounds .quantum-most) (bounds .tasks-most))
 
   -- the desire is a power of R
-  pub known-power : Power (c .responsiveness) (c .desire)
-  unfolding plan-view state-view
+  pub known-power : Power (terms-in (job .words) .responsiveness) (desire-in (job .words))
+  unfolding job-plan job-state
   known-power =
       let power = desire-is-power (plan-sound (r .accepted-plan)) calls in
-      let same-responsiveness : c .responsiveness ≡ plan .responsiveness = ap (λ (p : Plan). p .responsiveness) (r .its-plan) in
-      let same-desire : c .desire ≡ run plan calls .state .desire = ap (λ (s : State). s .desire) (r .its-state) in
+      let same-responsiveness : terms-in (job .words) .responsiveness ≡ plan .terms .responsiveness =
+      ap (λ (p : Plan). p .terms .responsiveness) (r .its-plan) in
+      let same-desire : desire-in (job .words) ≡ run plan calls .state .desire = ap (λ (s : State). s .desire) (r .its-state) in
       record {
-        responsive = known-sound .responsive;
+        responsive = known-sound .terms .responsive;
         three-bits = known-bounds .responsiveness-most;
         power = power .power;
         is-power = rw (same-desire, same-responsiveness) (power .is-power);
         at-most = rw same-desire (power .at-most);
       }
 
-  pub few-tasks : m .tasks ≤ 1024
-  unfolding plan-view
-  few-tasks = rw (← tasks-shown first second (m .tasks)) (known-bounds .tasks-most)
+  pub words-fit : InRange (job .words)
+  unfolding job-plan job-state
+  words-fit =
+      let few : job-numbers job .tasks ≤ 1024 =
+      rw (← tasks-shown (job-parts job .first) (job-parts job .second) (job-numbers job .tasks)) (known-bounds .tasks-most) in
+      record {
+        tasks-fit = few;
+        done-fits =
+            omega (
+              arith,
+              few,
+              r .kept .done-right,
+              count-set-at-most (worked-view (job-parts job .pending) (job-numbers job .tasks)),
+              flags-shown (job-parts job .pending) (job-numbers job .tasks),
+            );
+        workers-fit =
+            rw (← workers-shown (job-parts job .next) (job-parts job .ends) (job-numbers job .workers))
+            (known-measured .deques-at-most .workers);
+        desire-fits = known-measured .wanted;
+      }
+
+-- for crates above, which show words as narrower numbers
+pub in-range : {job : Job} → IsJob job → InRange (job .words)
+in-range is-job = words-fit (is-job .2)

@@ -4,64 +4,81 @@ use mathlib.Core.Path.{_≡_, refl, sym, _∙_}
 use mathlib.Core.List.{List, [], _∷_, _++_}
 use Prim.Native.Nat.{ℕ}
 use native.Mathlib.Omega.{arith}
+use lib.ListN.{length}
 use Rattle.model.specs.Questions.{Answer, accepted, refused}
 use Rattle.model.specs.Plan.{Plan}
 use Rattle.model.specs.Machine.{Call, call-answer, step}
-use Rattle.laws.proofs.Steps.{run-state}
-use Rattle.deque.specs.declared.Numbers.{Numbers}
-use Rattle.deque.specs.View.{graph}
-use Rattle.deque.specs.Sound.{Sizes, Kept}
-use Rattle.engine.specs.declared.Course.{Course}
-use Rattle.engine.specs.declared.Moved.{Moved}
+use Rattle.laws.proofs.Runs.{run-state}
+use Rattle.memory.specs.declared.Job.{Job}
+use Rattle.memory.specs.Parts.{parts, SameGraph}
+use Rattle.memory.specs.Words.{word-count, numbers-in, SameTail}
+use Rattle.memory.specs.Graphs.{graph}
+use Rattle.memory.specs.Sound.{Sizes, Kept}
+use Rattle.memory.specs.Jobs.{lent, job-parts, job-numbers, job-plan, job-state}
 use Rattle.engine.specs.declared.CallAnswer.{CallAnswer}
-use Rattle.engine.specs.View.{plan-view, state-view}
 use Rattle.engine.specs.Answers.{answer-of}
 use Rattle.engine.specs.Reached.{Reached}
-use Rattle.engine.specs.Moves.{Moves, Unchanged}
-
-abbrev pub moved-to : CallAnswer → Numbers → Course → Moved
-moved-to answer m c = record { answer = answer; numbers = m; course = c }
+use Rattle.engine.specs.Moves.{Moves}
+use Rattle.engine.proofs.Answers.{IsRefusal}
 
 -- what was accepted was not refused
 pub not-both : {a : Answer} (n : ℕ) → a ≡ accepted → a ≡ refused n → ⊥
 not-both n is-yes is-no = let z : _≡_ {A = ℕ} 0 1 = cc in omega arith
 
-module _ {plan : Plan} {calls : List Call} {first second pending next ends : List ℕ} {m : Numbers} {c : Course}
-    (r : Reached plan calls first second pending next ends m c) (call : Call) where
-  -- the state after the call, of the plan that the arrays show, is that of the history of one call more
-  pub one-call-more : (pending′ next′ ends′ : List ℕ) (m′ : Numbers) (c′ : Course) →
-      state-view pending′ next′ ends′ m′ c′ ≡ step (plan-view first second (m .tasks) c) call (state-view pending next ends m c) →
-      plan-view first second (m′ .tasks) c′ ≡ plan-view first second (m .tasks) c →
-      Sizes pending′ next′ ends′ →
-      Kept (graph first second (m′ .tasks)) pending′ m′ →
-      Reached plan (calls ++ call ∷ []) first second pending′ next′ ends′ m′ c′
-  one-call-more pending′ next′ ends′ m′ c′ stepped same-plan sizes kept =
-      record {
-        accepted-plan = r .accepted-plan;
-        its-plan = same-plan ∙ r .its-plan;
-        its-state = stepped ∙ (rw (r .its-plan, r .its-state) refl ∙ sym (run-state plan calls call));
-        sizes = sizes;
-        kept = kept;
-      }
+-- the plan stays where its terms, its number of tasks and the graph do
+pub plan-stays : (memory words memory′ words′ : List ℕ) → SameTail words words′ → numbers-in words′ .tasks ≡ numbers-in words .tasks →
+    SameGraph (parts memory) (parts memory′) → job-plan (lent memory′ words′) ≡ job-plan (lent memory words)
+unfolding job-plan
+plan-stays memory words memory′ words′ tail same-tasks same =
+    rw (
+      tail .same-from 10 (omega arith),
+      tail .same-from 11 (omega arith),
+      tail .same-from 12 (omega arith),
+      same .same-first,
+      same .same-second,
+      same-tasks,
+    )
+    refl
 
-module _ (call : Call) (first second pending next ends : List ℕ) (m : Numbers) (c : Course) where
-  -- a refused call is a step that stays where it is
-  pub refused-stays : (n : ℕ) → call-answer call (state-view pending next ends m c) ≡ refused n →
-      state-view pending next ends m c ≡ step (plan-view first second (m .tasks) c) call (state-view pending next ends m c)
-  unfolding step
-  refused-stays n is-no = rw is-no refl
+-- the state after the call, of the plan that the job shows, is that of the history of one call more
+one-call-more : {plan : Plan} {calls : List Call} {job job′ : Job} (call : Call) → Reached plan calls job →
+    job-state job′ ≡ step (job-plan job) call (job-state job) → job-plan job′ ≡ job-plan job →
+    Sizes (job-parts job′) → length (job′ .words) ≡ word-count →
+    Kept (graph (job-parts job′) (job-numbers job′ .tasks)) (job-parts job′) (job-numbers job′) →
+    Reached plan (calls ++ call ∷ []) job′
+one-call-more {plan} {calls} call r stepped same-plan sizes sized kept =
+    record {
+      accepted-plan = r .accepted-plan;
+      its-plan = same-plan ∙ r .its-plan;
+      its-state = stepped ∙ (rw (r .its-plan, r .its-state) refl ∙ sym (run-state plan calls call));
+      parts-sized = sizes;
+      words-sized = sized;
+      kept = kept;
+    }
 
-  pub refused-moves : (answer : CallAnswer) (n : ℕ) → answer-of answer ≡ call-answer call (state-view pending next ends m c) →
-      answer-of answer ≡ refused n → Moves call first second pending next ends m c pending next ends (moved-to answer m c)
-  refused-moves answer n asked is-no =
-      let stays = refused-stays n (sym asked ∙ is-no) in
-      record {
-        answered = asked;
-        stepped = stays;
-        reached = λ plan calls r. one-call-more r call pending next ends m c stays refl (r .sizes) (r .kept);
-      }
+-- a refused call is a step that stays where it is
+pub refused-moves : {call : Call} {job : Job} (answer : CallAnswer) → answer-of answer ≡ call-answer call (job-state job) →
+    IsRefusal answer → Moves call job job
+unfolding step
+refused-moves {call} {job} answer answered refusal =
+    let is-no : call-answer call (job-state job) ≡ refused (refusal .number) = sym answered ∙ refusal .told in
+    let stays : job-state job ≡ step (job-plan job) call (job-state job) = rw is-no refl in
+    record {
+      stepped = stays;
+      same-plan = refl;
+      unchanged = λ n h. refl;
+      reached = λ plan calls r. one-call-more call r stays refl (r .parts-sized) (r .words-sized) (r .kept);
+    }
 
--- nothing changed
-pub unchanged : {pending next ends : List ℕ} {m : Numbers} {c : Course} (answer : CallAnswer) →
-    Unchanged pending next ends m c pending next ends (moved-to answer m c)
-unchanged answer = record { same-pending = refl; same-next = refl; same-ends = refl; same-numbers = refl; same-course = refl }
+pub accepted-moves : {job job′ : Job} (call : Call) → call-answer call (job-state job) ≡ accepted →
+    job-state job′ ≡ step (job-plan job) call (job-state job) → job-plan job′ ≡ job-plan job →
+    Sizes (job-parts job′) → length (job′ .words) ≡ word-count →
+    Kept (graph (job-parts job′) (job-numbers job′ .tasks)) (job-parts job′) (job-numbers job′) →
+    Moves call job job′
+accepted-moves call is-yes stepped same-plan sizes sized kept =
+    record {
+      stepped = stepped;
+      same-plan = same-plan;
+      unchanged = λ n is-no. absurd (not-both n is-yes is-no);
+      reached = λ plan calls r. one-call-more call r stepped same-plan sizes sized kept;
+    }

@@ -1,6 +1,6 @@
 -- A tick of a job that calls reach: what the crate `turn` asks holds, and what its cycles and the tick's end leave is the model's tick.
 -- Assumes nothing.
-use mathlib.Core.Path.{_≡_, refl, sym, _∙_, ap}
+use mathlib.Core.Path.{_≡_, refl, sym, _∙_, subst}
 use mathlib.Core.Bool.{Bool, true, false}
 use mathlib.Core.List.{List, [], _∷_}
 use Prim.Native.Nat.{ℕ, _+_, _≤_, _<_}
@@ -8,38 +8,28 @@ use native.Mathlib.Omega.{arith}
 use borrow.Author.Tests.{eqb-false}
 use lib.ListN.{length}
 use Rattle.model.specs.Questions.{accepted, first-no}
-use Rattle.model.specs.Plan.{Plan}
-use Rattle.model.specs.Machine.{Execution, State, opened, cycles, ticked, tick, Call, ticks, call-answer, step}
+use Rattle.model.specs.Plan.{Graph, Plan}
+use Rattle.model.specs.Machine.{Execution, opened, cycles, ticked, tick, Call, ticks, call-answer, step}
 use Rattle.laws.specs.Reached.{OpenQuantum}
-use Rattle.laws.proofs.Steps.{TickAccepted, tick-accepted}
+use Rattle.laws.proofs.Accepted.{TickAccepted, tick-accepted}
 use Rattle.laws.proofs.Histories.{workers-placed}
-use Rattle.deque.specs.declared.Numbers.{Numbers}
-use Rattle.deque.specs.View.{view, graph}
-use Rattle.deque.specs.Sound.{Sizes, Kept, Sound, Room}
-use Rattle.deque.proofs.Views.{workers-shown}
+use Rattle.memory.specs.declared.Job.{Job}
+use Rattle.memory.specs.Parts.{parts, SameGraph}
+use Rattle.memory.specs.Words.{Numbers, numbers-in, terms-in, open-in, ticks-in, SameTail}
+use Rattle.memory.specs.Graphs.{graph}
+use Rattle.memory.specs.View.{view}
+use Rattle.memory.specs.Sound.{Sizes, Kept, Sound, Room}
+use Rattle.memory.specs.Jobs.{lent, quantum-view, job-plan, job-state}
+use Rattle.memory.proofs.Views.{workers-shown}
+use Rattle.memory.proofs.Words.{same-tail}
 use Rattle.turn.specs.Turns.{count-limit, TickTurn, Ticked}
-use Rattle.engine.specs.declared.Course.{Course}
-use Rattle.engine.specs.declared.CallAnswer.{CallAnswer}
-use Rattle.engine.specs.declared.CallAnswer.the-variants.{Accepted}
-use Rattle.engine.specs.Answers.{answer-of}
-use Rattle.engine.specs.View.{quantum-view, plan-view, state-view}
 use Rattle.engine.specs.Asked.{tick-asked}
-use Rattle.engine.specs.Courses.{counted, quantum-ended, Countable, SameCourse, CourseTicked}
+use Rattle.engine.specs.Ending.{tick-counted, quantum-ended, Countable, TickEnded}
 use Rattle.engine.specs.Reached.{Reached}
-use Rattle.engine.specs.Moves.{Moves, TickMoves}
-use Rattle.engine.proofs.Answers.{IsRefusal}
+use Rattle.engine.specs.Moves.{Moves}
 use Rattle.engine.proofs.Asking.{finished-shown, tick-asking}
-use Rattle.engine.proofs.Ending.{the-same}
-use Rattle.engine.proofs.Graphs.{same-cycles, bare-sound, bare-placed}
-use Rattle.engine.proofs.Known.{known-sound, known-bounds, known-arranged, known-measured, known-numbers, known-power, few-tasks}
-use Rattle.engine.proofs.Moving.{moved-to, not-both, one-call-more, refused-moves, unchanged}
-
--- ---- an accepted tick
-
--- a tick leaves the plan
-same-plan : (first second : List ℕ) (tasks : ℕ) {c r : Course} → SameCourse c r → plan-view first second tasks r ≡ plan-view first second tasks c
-unfolding plan-view
-same-plan first second tasks same = rw (same .same-responsiveness, same .same-utilization, same .same-length)
+use Rattle.engine.proofs.Known.{known-sound, known-bounds, known-arranged, known-measured, known-numbers, known-power, words-fit}
+use Rattle.engine.proofs.Moving.{plan-stays, accepted-moves}
 
 -- an open quantum's flag is set
 flag-set : (b : Bool) (k j : ℕ) → quantum-view b k ≡ opened j → b ≡ true
@@ -49,52 +39,57 @@ flag-set false k j h = let z : _≡_ {A = ℕ} 0 1 = cc in absurd (omega arith)
 shown-open : (b : Bool) (k : ℕ) → b ≡ true → quantum-view b k ≡ opened k
 shown-open b k h = rw h refl
 
-module _ {plan : Plan} {calls : List Call} {first second pending next ends : List ℕ} {m : Numbers} {c : Course} (choices : List ℕ)
-    (r : Reached plan calls first second pending next ends m c) (asked : first-no (tick-asked m c choices) ≡ accepted) where
-  abbrev shown-plan : Plan
-  shown-plan = plan-view first second (m .tasks) c
+-- with no worker, and so no choice, nothing moves
+no-cycles : (graph : Graph) (choices : List ℕ) (e : Execution) → length choices ≡ 0 → e ≡ cycles graph 0 choices e
+unfolding cycles
+no-cycles graph [] e none = refl
+no-cycles graph (choice ∷ choices) e none = absurd (omega arith)
 
-  abbrev shown-state : State
-  shown-state = state-view pending next ends m c
+module _ {plan : Plan} {calls : List Call} {memory words : List ℕ} (choices : List ℕ) (r : Reached plan calls (lent memory words))
+    (asked : first-no (tick-asked words choices) ≡ accepted) where
+  abbrev job : Job
+  job = lent memory words
 
-  tick-is-accepted : call-answer (ticks choices) shown-state ≡ accepted
-  tick-is-accepted = tick-asking pending next ends m (r .kept .done-right) c choices ∙ asked
+  tick-is-accepted : call-answer (ticks choices) (job-state job) ≡ accepted
+  tick-is-accepted = tick-asking job (r .kept .done-right) choices ∙ asked
 
-  facts : TickAccepted choices shown-state
-  facts = tick-accepted choices shown-state tick-is-accepted
+  facts : TickAccepted choices (job-state job)
+  facts = tick-accepted choices (job-state job) tick-is-accepted
 
-  is-open : c .«is_open» ≡ true
-  unfolding state-view
-  is-open = flag-set (c .«is_open») (c .ticks) _ (facts .open-quantum)
+  is-open : open-in words ≡ true
+  unfolding job-state
+  is-open = flag-set (open-in words) (ticks-in words) _ (facts .open-quantum)
 
-  current : OpenQuantum shown-plan shown-state (c .ticks)
-  unfolding state-view
-  current = known-measured r .current (c .ticks) (shown-open (c .«is_open») (c .ticks) is-open)
+  current : OpenQuantum (job-plan job) (job-state job) (ticks-in words)
+  unfolding job-state
+  current = known-measured r .current (ticks-in words) (shown-open (open-in words) (ticks-in words) is-open)
 
-  one-each : length choices ≡ m .workers
-  unfolding state-view
-  one-each = facts .one-each ∙ workers-shown next ends (m .workers)
+  one-each : length choices ≡ numbers-in words .workers
+  unfolding job-state
+  one-each = facts .one-each ∙ workers-shown (parts memory .next) (parts memory .ends) (numbers-in words .workers)
 
-  pub sound-job : 1 ≤ m .workers → Sound first second pending next ends m
-  unfolding state-view plan-view
+  -- ---- what the cycles ask
+
+  sound-job : 1 ≤ numbers-in words .workers → Sound (parts memory) (numbers-in words)
+  unfolding job-state job-plan
   sound-job some =
       record {
-        sizes = r .sizes;
-        few-tasks = few-tasks r;
-        planned = bare-sound shown-plan (known-sound r);
+        sizes = r .parts-sized;
+        few-tasks = words-fit r .tasks-fit;
+        planned = known-sound r .graph;
         lawful =
             record {
               placed =
-                  bare-placed shown-plan (view pending next ends m)
-                  (workers-placed (known-arranged r) (rw (workers-shown next ends (m .workers)) some));
+                  workers-placed (known-arranged r)
+                  (rw (workers-shown (parts memory .next) (parts memory .ends) (numbers-in words .workers)) some);
               bounded = known-measured r .deques-at-most;
               tallied = known-arranged r .tally;
             };
         kept = r .kept;
       }
 
-  room : Room count-limit m
-  unfolding state-view
+  room : Room count-limit (numbers-in words)
+  unfolding job-state
   room =
       let fit = known-numbers r in
       record {
@@ -105,110 +100,95 @@ module _ {plan : Plan} {calls : List Call} {first second pending next ends : Lis
         usage-fits = omega (arith, fit .usage);
       }
 
-  pub tick-turn : 1 ≤ m .workers → TickTurn first second pending next ends m choices
-  unfolding state-view
+  pub tick-turn : 1 ≤ numbers-in words .workers → TickTurn memory words choices
+  unfolding job-state
   tick-turn some =
       record {
+        size = r .words-sized;
         sound = sound-job some;
         one-each = one-each;
         all-workers = simp workers-shown at (facts .below-allotment);
-        unfinished = eqb-false (m .done) (m .tasks) (sym (finished-shown pending next ends m (r .kept .done-right)) ∙ facts .unfinished);
+        unfinished =
+            eqb-false (numbers-in words .done) (numbers-in words .tasks)
+            (sym (finished-shown (parts memory) (numbers-in words) (r .kept .done-right)) ∙ facts .unfinished);
         room = room;
       }
 
-  -- the tick's cycles use no more than the workers of one tick
-  pub countable : {m′ : Numbers} → m′ .usage ≤ m .usage + 64 → Countable m′ c
-  unfolding state-view plan-view
-  countable {m′} used =
-      let left : c .ticks < c .«quantum_length» = current .unclosed (facts .unfinished) in
-      record {
-        its-quantum = is-open;
-        ticks-fit = left;
-        closable =
-            record {
-              desired = known-power r;
-              usage-fits = omega (arith, left, current .usage-so-far, known-bounds r .quantum-most);
-            };
-      }
+  -- ---- what the tick's end asks, and the tick as a whole
 
-  module _ {pending′ next′ ends′ : List ℕ} {m′ : Numbers} {c′ : Course}
-      (shows : view pending′ next′ ends′ m′ ≡ cycles (graph first second (m .tasks)) 0 choices (view pending next ends m))
-      (same-tasks : m′ .tasks ≡ m .tasks)
-      (sizes : Sizes pending′ next′ ends′)
-      (kept : Kept (graph first second (m′ .tasks)) pending′ m′)
-      (ended : CourseTicked m′ c c′) where
-    counted-is-ticked : counted (view pending′ next′ ends′ m′) c ≡ ticked shown-plan choices shown-state
-    unfolding ticked state-view plan-view
-    counted-is-ticked =
-        rw (shows, same-cycles shown-plan 0 choices (view pending next ends m), is-open) refl
-
-    ticked-stepped : state-view pending′ next′ ends′ m′ c′ ≡ step shown-plan (ticks choices) shown-state
-    unfolding step tick quantum-ended
-    ticked-stepped =
-        rw tick-is-accepted
-        (ended .shows first second pending′ next′ ends′ (kept .done-right)
-        ∙ (ap (λ (n : ℕ). quantum-ended (plan-view first second n c) (counted (view pending′ next′ ends′ m′) c)) same-tasks
-        ∙ ap (quantum-ended shown-plan) counted-is-ticked))
-
-    ticked-moves : Moves (ticks choices) first second pending next ends m c pending′ next′ ends′ (moved-to Accepted m′ c′)
-    ticked-moves =
+  -- the cycles of the tick leave the plan and the words beside the execution's numbers, and use no more than the workers of one tick
+  module _ {words₁ : List ℕ} (tail : SameTail words words₁) where
+    pub countable : numbers-in words₁ .usage ≤ numbers-in words .usage + 64 → numbers-in words₁ .workers ≡ numbers-in words .workers →
+        Countable words₁
+    unfolding job-state job-plan
+    countable used same-workers =
+        let left : ticks-in words < terms-in words .quantum-length = current .unclosed (facts .unfinished) in
+        let responsiveness = tail .same-from 10 (omega arith) in
+        let utilization = tail .same-from 11 (omega arith) in
+        let its-length = tail .same-from 12 (omega arith) in
+        let desire = tail .same-from 13 (omega arith) in
         record {
-          answered = sym tick-is-accepted;
-          stepped = ticked-stepped;
-          reached = λ plan calls r.
-              one-call-more r (ticks choices) pending′ next′ ends′ m′ c′ ticked-stepped
-              (same-plan first second (m′ .tasks) (ended .same-course) ∙ ap (λ (n : ℕ). plan-view first second n c) same-tasks)
-              sizes kept;
+          size = tail .same-length ∙ r .words-sized;
+          its-quantum = rw (tail .same-from 15 (omega arith)) is-open;
+          ticks-fit = omega (arith, left, its-length, tail .same-from 16 (omega arith));
+          closable =
+              record {
+                desired = rw (responsiveness, desire) (known-power r);
+                usage-fits = omega (arith, left, used, current .usage-so-far, known-bounds r .quantum-most);
+              };
+          utilization-fits = omega (arith, utilization, known-sound r .terms .percent);
+          length-fits = omega (arith, its-length, known-bounds r .quantum-most);
+          workers-fit = omega (arith, same-workers, words-fit r .workers-fit);
         }
 
--- ---- what the function promises
+    module _ (memory′ : List ℕ) {words′ : List ℕ}
+        (shows : view (parts memory′) (numbers-in words₁)
+        ≡ cycles (graph (parts memory) (numbers-in words .tasks)) 0 choices (view (parts memory) (numbers-in words)))
+        (same-tasks : numbers-in words₁ .tasks ≡ numbers-in words .tasks)
+        (same-graph : SameGraph (parts memory) (parts memory′))
+        (sizes : Sizes (parts memory′))
+        (kept : Kept (graph (parts memory′) (numbers-in words₁ .tasks)) (parts memory′) (numbers-in words₁))
+        (ended : TickEnded words₁ words′) where
+      plan-after-cycles : job-plan (lent memory′ words₁) ≡ job-plan job
+      plan-after-cycles = plan-stays memory words memory′ words₁ tail same-tasks same-graph
 
--- with no worker, and so no choice, nothing moves
-no-cycles : (plan : Plan) (choices : List ℕ) (e : Execution) → length choices ≡ 0 → e ≡ cycles plan 0 choices e
-unfolding cycles
-no-cycles plan [] e none = refl
-no-cycles plan (choice ∷ choices) e none = absurd (omega arith)
+      counted-is-ticked : tick-counted (lent memory′ words₁) ≡ ticked (job-plan job) choices (job-state job)
+      unfolding ticked job-state job-plan
+      counted-is-ticked =
+          rw (
+            shows,
+            tail .same-from 13 (omega arith),
+            tail .same-from 14 (omega arith),
+            tail .same-from 16 (omega arith),
+            tail .same-from 17 (omega arith),
+            is-open,
+          )
+          refl
 
-module _ {plan : Plan} {calls : List Call} {first second pending next ends : List ℕ} {m : Numbers} {c : Course} (choices : List ℕ) (answer : CallAnswer)
-    (r : Reached plan calls first second pending next ends m c) (asked : answer-of answer ≡ first-no (tick-asked m c choices)) where
-  pub refused-tick : IsRefusal answer → TickMoves choices first second pending next ends m c pending next ends (moved-to answer m c)
-  refused-tick no-tick =
-      record {
-        moves =
-            refused-moves (ticks choices) first second pending next ends m c answer (no-tick .number)
-            (asked ∙ sym (tick-asking pending next ends m (r .kept .done-right) c choices))
-            (no-tick .told);
-        refusal = λ n h. unchanged answer;
-        keeps = record { same-tasks = refl; same-workers = refl; same-course = the-same refl refl refl refl refl };
-      }
+      ticked-stepped : job-state (lent memory′ words′) ≡ step (job-plan job) (ticks choices) (job-state job)
+      unfolding step tick quantum-ended
+      ticked-stepped =
+          rw tick-is-accepted (ended .shows memory′ (kept .done-right) ∙ rw (plan-after-cycles, counted-is-ticked) refl)
 
-  module _ (is-accepted : answer ≡ Accepted) where
-    no-refusal : first-no (tick-asked m c choices) ≡ accepted
-    no-refusal = sym (rw is-accepted at asked)
+      ticked-moves : Moves (ticks choices) job (lent memory′ words′)
+      ticked-moves =
+          accepted-moves (ticks choices) tick-is-accepted ticked-stepped (ended .same-plan memory′ ∙ plan-after-cycles) sizes
+          (ended .same-size ∙ tail .same-length ∙ r .words-sized)
+          (subst (λ (m : Numbers). Kept (graph (parts memory′) (m .tasks)) (parts memory′) m) (sym (ended .same-numbers)) kept)
 
-    -- some workers took their cycles
-    pub worked-tick : {pending′ next′ ends′ : List ℕ} {m′ : Numbers} {c′ : Course} →
-        Ticked first second pending next ends m choices pending′ next′ ends′ m′ → CourseTicked m′ c c′ →
-        TickMoves choices first second pending next ends m c pending′ next′ ends′ (moved-to answer m′ c′)
-    worked-tick done ended =
-        rw is-accepted
-        (record {
-          moves =
-              ticked-moves choices r no-refusal (done .shows) (done .within .same-tasks) (done .sound .sizes) (done .sound .kept) ended;
-          refusal = λ n h. absurd (not-both n refl h);
-          keeps = record { same-tasks = done .within .same-tasks; same-workers = done .within .same-workers; same-course = ended .same-course };
-        })
+  -- ---- what the function promises
 
-    -- no worker is granted
-    pub idle-tick : {c′ : Course} → m .workers ≡ 0 → CourseTicked m c c′ →
-        TickMoves choices first second pending next ends m c pending next ends (moved-to answer m c′)
-    idle-tick nobody ended =
-        rw is-accepted
-        (record {
-          moves =
-              ticked-moves choices r no-refusal
-              (no-cycles (graph first second (m .tasks)) choices (view pending next ends m) (one-each choices r no-refusal ∙ nobody))
-              refl (r .sizes) (r .kept) ended;
-          refusal = λ n h. absurd (not-both n refl h);
-          keeps = record { same-tasks = refl; same-workers = refl; same-course = ended .same-course };
-        })
+  -- some workers took their cycles
+  pub worked-tick : {memory′ words₁ words′ : List ℕ} → Ticked memory words choices memory′ words₁ → TickEnded words₁ words′ →
+      Moves (ticks choices) job (lent memory′ words′)
+  worked-tick {memory′} done ended =
+      ticked-moves (done .tail) memory′ (done .shows) (done .grown .same-tasks) (done .same-graph) (done .sound .sizes)
+      (done .sound .kept) ended
+
+  -- no worker is granted
+  pub idle-tick : {words′ : List ℕ} → numbers-in words .workers ≡ 0 → TickEnded words words′ →
+      Moves (ticks choices) job (lent memory words′)
+  idle-tick nobody ended =
+      ticked-moves (same-tail words) memory
+      (no-cycles (graph (parts memory) (numbers-in words .tasks)) choices (view (parts memory) (numbers-in words)) (one-each ∙ nobody))
+      refl (record { same-first = refl; same-second = refl }) (r .parts-sized) (r .kept) ended

@@ -1,7 +1,8 @@
 -- The paper's number for each answer of a grant or a tick.
 use Rattle.model.specs.Questions.{Answer, accepted, refused}
 use Rattle.engine.specs.declared.CallAnswer.{CallAnswer}
-use Rattle.engine.specs.declared.CallAnswer.the-variants.{Accepted, Finished, QuantumOpen, QuantaSpent, AboveDesire, NoQuantum, WrongChoiceCount, BadChoice}
+use Rattle.engine.specs.declared.CallAnswer.the-variants.{Accepted, Finished, QuantumOpen, QuantaSpent, AboveDesire}
+use Rattle.engine.specs.declared.CallAnswer.the-variants.{NoQuantum, WrongChoiceCount, BadChoice}
 
 abbrev pub answer-of : CallAnswer → Answer
 answer-of Accepted = accepted

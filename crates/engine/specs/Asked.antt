@@ -1,4 +1,4 @@
--- The questions of a grant and a tick as the code asks them, of numbers and flags.
+-- The questions of a grant and a tick as the code asks them, of a job's words.
 use mathlib.Core.Bool.{Bool, not}
 use mathlib.Core.List.{List, [], _∷_}
 use Prim.Native.Nat.{ℕ}
@@ -7,19 +7,18 @@ use lib.ListN.{length}
 use Rattle.model.specs.Tests.{every}
 use Rattle.model.specs.Questions.{Question, ask}
 use Rattle.model.specs.Machine.{quantum-limit}
-use Rattle.deque.specs.declared.Numbers.{Numbers}
-use Rattle.engine.specs.declared.Course.{Course}
+use Rattle.memory.specs.Words.{numbers-in, desire-in, open-in, begun-in}
 
 -- not all tasks are worked
-abbrev pub unfinished : Numbers → Bool
-unfinished m = not (eqb (m .done) (m .tasks))
+abbrev pub unfinished : List ℕ → Bool
+unfinished words = not (eqb (numbers-in words .done) (numbers-in words .tasks))
 
 -- a grant, 11 to 14
-unfoldable pub grant-asked : Numbers → Course → ℕ → List Question
-grant-asked m c g =
-    ask (unfinished m) 11 ∷ ask (not (c .«is_open»)) 12
-    ∷ ask (ltb (c .begun) quantum-limit) 13
-    ∷ ask (leb g (c .desire)) 14
+unfoldable pub grant-asked : List ℕ → ℕ → List Question
+grant-asked words g =
+    ask (unfinished words) 11 ∷ ask (not (open-in words)) 12
+    ∷ ask (ltb (begun-in words) quantum-limit) 13
+    ∷ ask (leb g (desire-in words)) 14
     ∷ []
 
 -- every choice is below the number of workers
@@ -27,9 +26,9 @@ abbrev pub choices-below : List ℕ → ℕ → Bool
 choices-below choices workers = every (λ choice. ltb choice workers) choices
 
 -- a tick, 11 and 15 to 17
-unfoldable pub tick-asked : Numbers → Course → List ℕ → List Question
-tick-asked m c choices =
-    ask (unfinished m) 11 ∷ ask (c .«is_open») 15
-    ∷ ask (eqb (length choices) (m .workers)) 16
-    ∷ ask (choices-below choices (m .workers)) 17
+unfoldable pub tick-asked : List ℕ → List ℕ → List Question
+tick-asked words choices =
+    ask (unfinished words) 11 ∷ ask (open-in words) 15
+    ∷ ask (eqb (length choices) (numbers-in words .workers)) 16
+    ∷ ask (choices-below choices (numbers-in words .workers)) 17
     ∷ []

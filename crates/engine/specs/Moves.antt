@@ -1,53 +1,28 @@
--- What a grant and a tick promise, over plain lists and numbers: the answer is the model's, the state makes one step of the model, the job
--- is reached by one call more, and a refused call changes nothing.
+-- What acceptance, a grant and a tick do to a job. Each function's answer stands beside it, as an equation with the model's answer.
 use mathlib.Core.Path.{_≡_}
 use mathlib.Core.List.{List, [], _∷_, _++_}
 use Prim.Native.Nat.{ℕ}
-use Rattle.model.specs.Questions.{refused}
-use Rattle.model.specs.Plan.{Plan}
-use Rattle.model.specs.Machine.{Call, grants, ticks, call-answer, step}
-use Rattle.deque.specs.declared.Numbers.{Numbers}
-use Rattle.engine.specs.declared.Course.{Course}
-use Rattle.engine.specs.declared.Moved.{Moved}
-use Rattle.engine.specs.View.{plan-view, state-view}
-use Rattle.engine.specs.Answers.{answer-of}
-use Rattle.engine.specs.Courses.{SameCourse}
+use Rattle.model.specs.Questions.{accepted, refused}
+use Rattle.model.specs.Plan.{Plan, plan-of, plan-answer}
+use Rattle.model.specs.Machine.{Call, call-answer, step, fresh}
+use Rattle.memory.specs.declared.Job.{Job}
+use Rattle.memory.specs.Jobs.{job-plan, job-state}
 use Rattle.engine.specs.Reached.{Reached}
 
--- the call's promise: first and second are the plan's arrays; pending, next, ends, m, c what the call began with; the primed ones and
--- `moved` what it left
-pub record Moves (call : Call) (first second pending next ends : List ℕ) (m : Numbers) (c : Course) (pending′ next′ ends′ : List ℕ)
-    (moved : Moved) : Type 0 where
-  pub answered : answer-of (moved .answer) ≡ call-answer call (state-view pending next ends m c)
-  pub stepped : state-view pending′ next′ ends′ (moved .numbers) (moved .course)
-      ≡ step (plan-view first second (m .tasks) c) call (state-view pending next ends m c)
-  pub reached : (plan : Plan) (calls : List Call) → Reached plan calls first second pending next ends m c →
-      Reached plan (calls ++ call ∷ []) first second pending′ next′ ends′ (moved .numbers) (moved .course)
+-- bytes were handed over with this job, and left that one
+pub record Accepts (bytes : List ℕ) (job job′ : Job) : Type 0 where
+  -- accepted: the plan of the bytes, a fresh state, and no call yet
+  pub its-plan : plan-answer bytes ≡ accepted → job-plan job′ ≡ plan-of bytes
+  pub its-state : plan-answer bytes ≡ accepted → job-state job′ ≡ fresh (plan-of bytes)
+  pub reached : plan-answer bytes ≡ accepted → Reached (plan-of bytes) [] job′
+  -- refused: no record, and what was there is as it came
+  pub unchanged : (n : ℕ) → plan-answer bytes ≡ refused n → job′ ≡ job
 
--- a refused call changes nothing
-pub record Unchanged (pending next ends : List ℕ) (m : Numbers) (c : Course) (pending′ next′ ends′ : List ℕ) (moved : Moved) : Type 0 where
-  pub same-pending : pending′ ≡ pending
-  pub same-next : next′ ≡ next
-  pub same-ends : ends′ ≡ ends
-  pub same-numbers : moved .numbers ≡ m
-  pub same-course : moved .course ≡ c
-
--- "11 to 17 return the number and the record unchanged";
--- a grant reads and writes nothing of the plan's arrays, `pending` and `next`: it promises this of all that make the rest a job
-pub record GrantMoves (g : ℕ) (ends : List ℕ) (m : Numbers) (c : Course) (ends′ : List ℕ) (moved : Moved) : Type 0 where
-  pub moves : (plan : Plan) (calls : List Call) (first second pending next : List ℕ) → Reached plan calls first second pending next ends m c →
-      Moves (grants g) first second pending next ends m c pending next ends′ moved
-  pub refusal : (n : ℕ) → answer-of (moved .answer) ≡ refused n → (pending next : List ℕ) →
-      Unchanged pending next ends m c pending next ends′ moved
-
--- what no tick changes
-pub record TickKeeps (m : Numbers) (c : Course) (moved : Moved) : Type 0 where
-  pub same-tasks : moved .numbers .tasks ≡ m .tasks
-  pub same-workers : moved .numbers .workers ≡ m .workers
-  pub same-course : SameCourse c (moved .course)
-
-pub record TickMoves (choices first second pending next ends : List ℕ) (m : Numbers) (c : Course) (pending′ next′ ends′ : List ℕ)
-    (moved : Moved) : Type 0 where
-  pub moves : Moves (ticks choices) first second pending next ends m c pending′ next′ ends′ moved
-  pub refusal : (n : ℕ) → answer-of (moved .answer) ≡ refused n → Unchanged pending next ends m c pending′ next′ ends′ moved
-  pub keeps : TickKeeps m c moved
+-- the call was made of this job, and left that one
+pub record Moves (call : Call) (job job′ : Job) : Type 0 where
+  pub stepped : job-state job′ ≡ step (job-plan job) call (job-state job)
+  pub same-plan : job-plan job′ ≡ job-plan job
+  -- "11 to 17 return the number and the record unchanged"
+  pub unchanged : (n : ℕ) → call-answer call (job-state job) ≡ refused n → job′ ≡ job
+  -- whatever plan and calls reached the job, with this call they reach the one that it leaves
+  pub reached : (plan : Plan) (calls : List Call) → Reached plan calls job → Reached plan (calls ++ call ∷ []) job′

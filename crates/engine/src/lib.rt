@@ -1,29 +1,22 @@
-// The in-place core of a job: the answer to a call and what an accepted one does, over lent arrays. Nothing is copied but a few numbers.
+// The in-place core of a job: acceptance, a grant and a tick, each in the memory and the words that are lent. Nothing is copied, and a call
+// reads and writes the words that it needs.
 ghost use mathlib.Core.Path.{_≡_};
 ghost use Prim.Native.Nat.{_<_};
 ghost use Rattle.model.specs.Questions.{answer-number, first-no};
-ghost use Rattle.model.specs.Machine.{quantum-limit};
+ghost use Rattle.model.specs.Plan.{plan-answer};
+ghost use Rattle.model.specs.Machine.{quantum-limit, grants, ticks, call-answer};
+ghost use Rattle.plan.specs.Answers.{answer-of as plan-answer-of};
+ghost use Rattle.memory.specs.Words.{numbers-in, begun-in};
+ghost use Rattle.memory.specs.Jobs.{job, job-state};
 ghost use Rattle.engine.specs.Answers.{answer-of};
 ghost use Rattle.engine.specs.Asked.{grant-asked, tick-asked, choices-below};
-ghost use Rattle.engine.specs.Courses.{granted-course, Countable, CourseTicked};
-ghost use Rattle.engine.specs.Reached.{IsJob, IsJobWith};
-ghost use Rattle.engine.specs.Moves.{GrantMoves, TickMoves};
-use deque::Numbers;
+ghost use Rattle.engine.specs.Reached.{IsJob};
+ghost use Rattle.engine.specs.Moves.{Accepts, Moves};
+ghost use Rattle.engine.specs.Ending.{opened-words, Countable, TickEnded};
+use plan::PlanAnswer;
 
 // So many quanta may begin: model's quantum-limit.
-const QUANTUM_LIMIT: u16 = 65535;
-
-// The plan's numbers, and those that calls move beside the execution.
-pub struct Course {
-    pub responsiveness: u8,
-    pub utilization: u8,
-    pub quantum_length: u16,
-    pub desire: u8,
-    pub started: bool,
-    pub is_open: bool,
-    pub ticks: u16,
-    pub begun: u16,
-}
+const QUANTUM_LIMIT: u64 = 65535;
 
 // One case for each number of the paper, which answer-of gives.
 pub enum CallAnswer {
@@ -35,12 +28,6 @@ pub enum CallAnswer {
     NoQuantum,
     WrongChoiceCount,
     BadChoice,
-}
-
-pub struct Moved {
-    pub answer: CallAnswer,
-    pub numbers: Numbers,
-    pub course: Course,
 }
 
 // The paper's number of a refusal, and 0 for acceptance.
@@ -59,20 +46,58 @@ pub fn number(answer: CallAnswer) -> u8
     }
 }
 
-// Questions 11 to 14.
-fn grant_answer(m: Numbers, c: Course, g: u64) -> CallAnswer
-    ensures { λ r. ⌜ answer-of r ≡ first-no (grant-asked m c g) ⌝ }
+// A plan of any bytes: the memory and the words hold its fresh job, whatever they held before; or the number of the first "no", and they
+// stay as they came.
+pub fn accept(bytes: &[u8], memory: &mut [u16; 4352], words: &mut [u64; 18]) -> PlanAnswer
+    ensures answered { λ r. ⌜ plan-answer-of r ≡ plan-answer (now (bytes .entry)) ⌝ }
+    ensures accepts { λ _. ⌜ Accepts (now (bytes .entry)) (job (memory .entry) (words .entry)) (job (memory .exit) (words .exit)) ⌝ }
 {
-    if m.done == m.tasks {
+    let heading = plan::read_into(bytes, memory);
+    let answer = heading.answer;
+    if !plan::passed(answer) {
+        return answer;
+    }
+    let tasks = heading.tasks as u64;
+    let responsiveness = heading.responsiveness as u64;
+    let utilization = heading.utilization as u64;
+    let length = heading.quantum_length as u64;
+    *words = [
+        tasks,
+        0, // workers
+        0, // tasks worked
+        0, // work cycles
+        0, // mug cycles
+        0, // steal cycles
+        0, // successful steals
+        0, // usage
+        0, // the ring's head
+        0, // muggable deques
+        responsiveness,
+        utilization,
+        length,
+        1, // the desire
+        0, // started
+        0, // a quantum is open
+        0, // its ticks
+        0, // quanta begun
+    ];
+    answer
+}
+
+// Questions 11 to 14.
+fn grant_answer(words: &[u64; 18], g: u64) -> CallAnswer
+    ensures { λ r. ⌜ answer-of r ≡ first-no (grant-asked (now (words .entry)) g) ⌝ }
+{
+    if words[2] == words[0] {
         return CallAnswer::Finished;
     }
-    if c.is_open {
+    if words[15] != 0 {
         return CallAnswer::QuantumOpen;
     }
-    if c.begun >= QUANTUM_LIMIT {
+    if words[17] >= QUANTUM_LIMIT {
         return CallAnswer::QuantaSpent;
     }
-    if g > c.desire as u64 {
+    if g > words[13] {
         return CallAnswer::AboveDesire;
     }
     CallAnswer::Accepted
@@ -91,126 +116,96 @@ fn all_below(choices: &[u8], workers: u8) -> bool
     below
 }
 
-// Questions 11 and 15 to 17.
-fn tick_answer(m: Numbers, c: Course, choices: &[u8]) -> CallAnswer
-    ensures { λ r. ⌜ answer-of r ≡ first-no (tick-asked m c (now (choices .entry))) ⌝ }
+// Questions 11 and 15 to 17. As many choices as workers are at most 64, so that the number of workers fits a byte where 17 is asked.
+fn tick_answer(words: &[u64; 18], choices: &[u8]) -> CallAnswer
+    requires { ⌜ numbers-in (now words) .workers < 256 ⌝ }
+    ensures { λ r. ⌜ answer-of r ≡ first-no (tick-asked (now (words .entry)) (now (choices .entry))) ⌝ }
 {
-    if m.done == m.tasks {
+    if words[2] == words[0] {
         return CallAnswer::Finished;
     }
-    if !c.is_open {
+    if words[15] == 0 {
         return CallAnswer::NoQuantum;
     }
-    let workers = m.workers;
-    if choices.len() != workers as usize {
+    let workers = words[1];
+    if choices.len() as u64 != workers {
         return CallAnswer::WrongChoiceCount;
     }
-    if all_below(choices, workers) {
+    if all_below(choices, workers as u8) {
         return CallAnswer::Accepted;
     }
     CallAnswer::BadChoice
 }
 
 // An accepted grant of g opens a quantum.
-fn open_quantum(c: Course, g: u64) -> Course
-    requires { ⌜ c .begun < quantum-limit ⌝ }
-    ensures { λ r. ⌜ r ≡ granted-course c g ⌝ }
+fn open_quantum(words: &mut [u64; 18], g: u64)
+    requires { ⌜ begun-in (now words) < quantum-limit ⌝ }
+    ensures { λ _. ⌜ now (words .exit) ≡ opened-words (now (words .entry)) g ⌝ }
 {
-    let mut r = c;
-    r.is_open = true;
-    r.ticks = 0;
-    r.begun = c.begun + 1;
+    words[15] = 1;
+    words[16] = 0;
+    words[17] = words[17] + 1;
     if g == 0 {
-        return r;
+        return;
     }
-    r.started = true;
-    r
+    words[14] = 1;
 }
 
-// "A grant of g", any number of workers: the answer, and the job after it. Refused, it changes nothing.
-pub fn grant(ends: &mut [u16; 256], m: Numbers, c: Course, g: u64) -> Moved
-    requires { ⌜ IsJobWith (now ends) m c ⌝ }
-    ensures { λ r. ⌜ GrantMoves g (now (ends .entry)) m c (now (ends .exit)) r ⌝ }
+// "A grant of g", any number of workers. Refused, it changes nothing.
+pub fn grant(memory: &mut [u16; 4352], words: &mut [u64; 18], g: u64) -> CallAnswer
+    requires { ⌜ IsJob (job memory words) ⌝ }
+    ensures answered { λ r. ⌜ answer-of r ≡ call-answer (grants g) (job-state (job (memory .entry) (words .entry))) ⌝ }
+    ensures moves { λ _. ⌜ Moves (grants g) (job (memory .entry) (words .entry)) (job (memory .exit) (words .exit)) ⌝ }
 {
-    let answer = grant_answer(m, c, g);
+    let answer = grant_answer(words, g);
     let CallAnswer::Accepted = answer else {
-        return Moved {
-            answer: answer,
-            numbers: m,
-            course: c,
-        };
+        return answer;
     };
-    let workers = g as u8;
-    let numbers = allot::allot(ends, m, c.started, workers);
-    let course = open_quantum(c, g);
-    Moved {
-        answer: answer,
-        numbers: numbers,
-        course: course,
-    }
+    allot::allot(memory, words, g as usize);
+    open_quantum(words, g);
+    answer
 }
 
-// A tick is counted and, where the job is unfinished and the tick was the quantum's last, the quantum is closed. `after` are the numbers
-// after the tick's cycles.
-fn end_tick(after: Numbers, c: Course) -> Course
-    requires { ⌜ Countable after c ⌝ }
-    ensures { λ r. ⌜ CourseTicked after c r ⌝ }
+// A tick is counted and, where the job is unfinished and the tick was the quantum's last, the quantum is closed.
+fn end_tick(words: &mut [u64; 18])
+    requires { ⌜ Countable (now words) ⌝ }
+    ensures { λ _. ⌜ TickEnded (now (words .entry)) (now (words .exit)) ⌝ }
 {
-    let mut r = c;
-    r.ticks = c.ticks + 1;
-    if after.done == after.tasks {
-        return r;
+    words[16] = words[16] + 1;
+    let tasks = words[0];
+    if words[2] == tasks {
+        return;
     }
-    if r.ticks != c.quantum_length {
-        return r;
+    if words[16] != words[12] {
+        return;
     }
-    r.desire = quantum::next_desire(
-        c.responsiveness,
-        c.utilization,
-        c.quantum_length,
-        c.desire,
-        after.workers,
-        after.usage,
+    let desire = quantum::next_desire(
+        words[10] as u8,
+        words[11] as u8,
+        words[12] as u16,
+        words[13] as u8,
+        words[1] as u8,
+        words[7],
     );
-    r.is_open = false;
-    r
+    words[13] = desire as u64;
+    words[15] = 0;
 }
 
-// "A tick": the answer, and the job after it. The workers' cycles, then the end of the tick. Refused, it changes nothing.
-pub fn tick(
-    first: &[u16; 1024],
-    second: &[u16; 1024],
-    pending: &mut [u8; 1024],
-    next: &mut [u16; 1024],
-    ends: &mut [u16; 256],
-    m: Numbers,
-    c: Course,
-    choices: &[u8],
-) -> Moved
-    requires { ⌜ IsJob (now first) (now second) (now pending) (now next) (now ends) m c ⌝ }
-    ensures { λ r. ⌜ TickMoves (now (choices .entry)) (now (first .entry)) (now (second .entry)) (now (pending .entry)) (now (next .entry)) (now (ends .entry)) m c (now (pending .exit)) (now (next .exit)) (now (ends .exit)) r ⌝ }
+// "A tick": the workers' cycles, then the end of the tick. Refused, it changes nothing.
+pub fn tick(memory: &mut [u16; 4352], words: &mut [u64; 18], choices: &[u8]) -> CallAnswer
+    requires { ⌜ IsJob (job memory words) ⌝ }
+    ensures answered { λ r. ⌜ answer-of r ≡ call-answer (ticks (now (choices .entry))) (job-state (job (memory .entry) (words .entry))) ⌝ }
+    ensures moves { λ _. ⌜ Moves (ticks (now (choices .entry))) (job (memory .entry) (words .entry)) (job (memory .exit) (words .exit)) ⌝ }
 {
-    let answer = tick_answer(m, c, choices);
+    let answer = tick_answer(words, choices);
     let CallAnswer::Accepted = answer else {
-        return Moved {
-            answer: answer,
-            numbers: m,
-            course: c,
-        };
+        return answer;
     };
-    if m.workers == 0 {
-        let course = end_tick(m, c);
-        return Moved {
-            answer: answer,
-            numbers: m,
-            course: course,
-        };
+    if words[1] == 0 {
+        end_tick(words);
+        return answer;
     }
-    let after = turn::cycles(first, second, pending, next, ends, choices, m);
-    let course = end_tick(after, c);
-    Moved {
-        answer: answer,
-        numbers: after,
-        course: course,
-    }
+    turn::cycles(memory, words, choices);
+    end_tick(words);
+    answer
 }

@@ -1,5 +1,2 @@
--- Calling: a call in lent memory. Granting: a grant of any number. Accepting, Showing: the other functions.
-pub mod Calling
-pub mod Granting
-pub mod Accepting
+-- Showing: what is shown of a job in lent memory.
 pub mod Showing

@@ -1,3 +1,2 @@
--- The static library. Promises: what the exported functions promise of a job in lent memory. Steps: what the inner ones do.
-pub mod Steps
+-- The static library. Promises: what its functions promise that show a job's words.
 pub mod Promises

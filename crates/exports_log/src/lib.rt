@@ -2,9 +2,10 @@
 // each copy of the core, here and in `exports`, and inlines it.
 ghost use mathlib.Core.Path.{_≡_};
 ghost use Rattle.model.specs.Questions.{answer-number};
-ghost use Rattle.log.specs.Running.{log-answer-of};
-ghost use Rattle.memory.specs.Held.{Held};
-ghost use Rattle.exports_log.specs.Promise.{RunsLog};
+ghost use Rattle.model.specs.Log.{log-answer};
+ghost use Rattle.memory.specs.Jobs.{job};
+ghost use Rattle.engine.specs.Reached.{IsJob};
+ghost use Rattle.log.specs.Running.{log-answer-of, run-of, Runs};
 use log::LogAnswer;
 
 // The number of a log's answer.
@@ -21,25 +22,16 @@ fn log_number(answer: LogAnswer) -> u8
 // are as the entries before the broken one left them.
 #[no_mangle]
 pub extern "C" fn jirvaldo_core_run_log(
-    first: &[u16; 1024],
-    second: &[u16; 1024],
-    pending: &mut [u8; 1024],
-    next: &mut [u16; 1024],
-    ends: &mut [u16; 256],
+    memory: &mut [u16; 4352],
     words: &mut [u64; 18],
     log: &[u8],
     refusals: &mut u64,
 ) -> u8
-    requires { ⌜ Held (now first) (now second) (now pending) (now next) (now ends) (now words) ⌝ }
-    ensures { λ r. ⌜ RunsLog (now (log .entry)) (now (first .entry)) (now (second .entry)) (now (pending .entry)) (now (next .entry)) (now (ends .entry)) (now (words .entry)) (now (pending .exit)) (now (next .exit)) (now (ends .exit)) (now (words .exit)) (now (refusals .exit)) r ⌝ }
+    requires { ⌜ IsJob (job memory words) ⌝ }
+    ensures answered { λ r. ⌜ r ≡ answer-number (log-answer (now (log .entry))) ⌝ }
+    ensures counted { λ _. ⌜ now (refusals .exit) ≡ run-of (now (log .entry)) (job (memory .entry) (words .entry)) .refusals ⌝ }
+    ensures runs { λ _. ⌜ Runs (now (log .entry)) (job (memory .entry) (words .entry)) (job (memory .exit) (words .exit)) ⌝ }
 {
-    let m = memory::numbers_in(words);
-    let c = memory::course_in(words);
-    let ran = log::run(first, second, pending, next, ends, m, c, log);
-    let answer = ran.answer;
-    let numbers = ran.numbers;
-    let course = ran.course;
-    memory::store(words, numbers, course);
-    *refusals = ran.refusals;
+    let answer = log::run(memory, words, log, refusals);
     log_number(answer)
 }

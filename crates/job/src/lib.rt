@@ -1,32 +1,20 @@
 // The job record, by value. It carries its plan: a call takes a count or choices and nothing else. A thin layer over the in-place
 // core `engine`.
 ghost use mathlib.Core.Path.{_≡_};
-ghost use Rattle.model.specs.Machine.{grants, ticks, status};
-ghost use Rattle.job.specs.View.{FromCalls, JobNumbers, job-state};
+ghost use Rattle.model.specs.Plan.{plan-answer};
+ghost use Rattle.model.specs.Machine.{grants, ticks, call-answer, status};
+ghost use Rattle.plan.specs.Answers.{answer-of as plan-answer-of};
+ghost use Rattle.memory.specs.Jobs.{job-state};
+ghost use Rattle.engine.specs.Answers.{answer-of};
+ghost use Rattle.engine.specs.Reached.{IsJob, JobWords};
+ghost use Rattle.engine.specs.Moves.{Accepts, Moves};
 ghost use Rattle.status.specs.Number.{status-number};
+ghost use Rattle.job.specs.Blank.{blank-job};
 ghost use Rattle.job.specs.Status.{shown-status, StatusOf};
-ghost use Rattle.job.specs.Promises.{Accepting, Calling, no-numbers, fresh-course, fresh-job};
-use cycle_counts::MugCycles;
-use cycle_counts::StealCycles;
-use cycle_counts::WorkCycles;
-use deque::Numbers;
 use engine::CallAnswer;
-use engine::Course;
+use memory::Job;
 use plan::PlanAnswer;
-use plan::PlanRecord;
 use status::Status;
-
-pub struct Job {
-    // the plan's graph: the successors by field, 0 for none
-    pub first: [u16; 1024],
-    pub second: [u16; 1024],
-    // the execution's arrays
-    pub pending: [u8; 1024],
-    pub next: [u16; 1024],
-    pub ends: [u16; 256],
-    pub numbers: Numbers,
-    pub course: Course,
-}
 
 // The answer, and the record where it is Accepted. On a refusal there is no record: what stands there is the blank.
 pub struct Acceptance {
@@ -40,167 +28,82 @@ pub struct Called {
     pub job: Job,
 }
 
-// The numbers of an execution that has not begun.
-pub fn no_numbers(tasks: u16) -> Numbers
-    ensures { λ r. ⌜ r ≡ no-numbers tasks ⌝ }
-{
-    Numbers {
-        tasks,
-        workers: 0,
-        done: 0,
-        works: WorkCycles::none(),
-        mugs: MugCycles::none(),
-        steals: StealCycles::none(),
-        successes: 0,
-        usage: 0,
-        head: 0,
-        waiting: 0,
-    }
-}
-
-// The plan's numbers, and those that calls move beside the execution, before any call.
-pub fn fresh_course(responsiveness: u8, utilization: u8, quantum_length: u16) -> Course
-    ensures { λ r. ⌜ r ≡ fresh-course responsiveness utilization «quantum_length» ⌝ }
-{
-    Course {
-        responsiveness,
-        utilization,
-        quantum_length,
-        desire: 1,
-        started: false,
-        is_open: false,
-        ticks: 0,
-        begun: 0,
-    }
-}
-
-// The record of a plan before any call.
-fn fresh(p: PlanRecord) -> Job
-    ensures { λ r. ⌜ r ≡ fresh-job p ⌝ }
-{
-    let first = p.first;
-    let second = p.second;
-    let pending = p.predecessors;
-    Job {
-        first,
-        second,
-        pending,
-        next: [0u16; 1024],
-        ends: [0u16; 256],
-        numbers: no_numbers(p.tasks),
-        course: fresh_course(p.responsiveness, p.utilization, p.quantum_length),
-    }
-}
-
 // A plan of any bytes: the fresh record, or the number of the first "no" and no record.
 pub fn accept(bytes: &[u8]) -> Acceptance
-    ensures { λ r. ⌜ Accepting (now (bytes .entry)) r ⌝ }
+    ensures answered { λ r. ⌜ plan-answer-of (r .answer) ≡ plan-answer (now (bytes .entry)) ⌝ }
+    ensures accepts { λ r. ⌜ Accepts (now (bytes .entry)) blank-job (r .job) ⌝ }
 {
-    let reading = plan::read(bytes);
-    let answer = reading.answer;
-    let p = reading.plan;
+    let mut memory = [0u16; 4352];
+    let mut words = [0u64; 18];
+    let answer = engine::accept(bytes, &mut memory, &mut words);
     Acceptance {
         answer,
-        job: fresh(p),
+        job: Job { memory, words },
     }
 }
 
 // A grant of g workers, any number. Refused, the record comes back unchanged.
 pub fn grant(job: Job, g: u64) -> Called
-    requires { ⌜ FromCalls job ⌝ }
-    ensures { λ r. ⌜ Calling (grants g) job r ⌝ }
+    requires { ⌜ IsJob job ⌝ }
+    ensures answered { λ r. ⌜ answer-of (r .answer) ≡ call-answer (grants g) (job-state job) ⌝ }
+    ensures moves { λ r. ⌜ Moves (grants g) job (r .job) ⌝ }
 {
-    let mut ends = job.ends;
-    let moved = engine::grant(&mut ends, job.numbers, job.course, g);
-    let answer = moved.answer;
-    let numbers = moved.numbers;
-    let course = moved.course;
-    let first = job.first;
-    let second = job.second;
-    let pending = job.pending;
-    let next = job.next;
+    let mut memory = job.memory;
+    let mut words = job.words;
+    let answer = engine::grant(&mut memory, &mut words, g);
     Called {
         answer,
-        job: Job {
-            first,
-            second,
-            pending,
-            next,
-            ends,
-            numbers,
-            course,
-        },
+        job: Job { memory, words },
     }
 }
 
 // A tick with a choice for each granted worker. Refused, the record comes back unchanged.
 pub fn tick(job: Job, choices: &[u8]) -> Called
-    requires { ⌜ FromCalls job ⌝ }
-    ensures { λ r. ⌜ Calling (ticks (now (choices .entry))) job r ⌝ }
+    requires { ⌜ IsJob job ⌝ }
+    ensures answered { λ r. ⌜ answer-of (r .answer) ≡ call-answer (ticks (now (choices .entry))) (job-state job) ⌝ }
+    ensures moves { λ r. ⌜ Moves (ticks (now (choices .entry))) job (r .job) ⌝ }
 {
-    let first = job.first;
-    let second = job.second;
-    let mut pending = job.pending;
-    let mut next = job.next;
-    let mut ends = job.ends;
-    let moved = engine::tick(
-        &first,
-        &second,
-        &mut pending,
-        &mut next,
-        &mut ends,
-        job.numbers,
-        job.course,
-        choices,
-    );
-    let answer = moved.answer;
-    let numbers = moved.numbers;
-    let course = moved.course;
+    let mut memory = job.memory;
+    let mut words = job.words;
+    let answer = engine::tick(&mut memory, &mut words, choices);
     Called {
         answer,
-        job: Job {
-            first,
-            second,
-            pending,
-            next,
-            ends,
-            numbers,
-            course,
-        },
+        job: Job { memory, words },
     }
 }
 
-// The status that numbers show, whatever they are. Numbers without a task are no job's: they show as fresh and never as finished.
-fn shown_status(m: Numbers, c: Course) -> Status
-    ensures { λ r. ⌜ status-number r ≡ shown-status m c ⌝ }
+// The status that words show, whatever they are. Words without a task are no job's: they show as fresh and never as finished.
+fn shown_status(words: &[u64; 18]) -> Status
+    ensures { λ r. ⌜ status-number r ≡ shown-status (now (words .entry)) ⌝ }
 {
-    if m.tasks == 0 {
+    if words[0] == 0 {
         return Status::Fresh;
     }
-    if m.done == m.tasks {
+    if words[2] == words[0] {
         return Status::Finished;
     }
-    if !c.started {
+    if words[14] == 0 {
         return Status::Fresh;
     }
-    if m.workers == 0 {
+    if words[1] == 0 {
         return Status::Held;
     }
     Status::Running
 }
 
-// The status of a job, from its numbers.
-pub fn status_of(m: Numbers, c: Course) -> Status
-    requires { ⌜ JobNumbers m c ⌝ }
-    ensures { λ r. ⌜ StatusOf m c r ⌝ }
+// The status of a job, from its words.
+pub fn status_of(words: &[u64; 18]) -> Status
+    requires { ⌜ JobWords (now words) ⌝ }
+    ensures { λ r. ⌜ StatusOf (now (words .entry)) r ⌝ }
 {
-    shown_status(m, c)
+    shown_status(words)
 }
 
 // The status of a record.
 pub fn job_status(job: Job) -> Status
-    requires { ⌜ FromCalls job ⌝ }
+    requires { ⌜ IsJob job ⌝ }
     ensures { λ r. ⌜ status-number r ≡ status (job-state job) ⌝ }
 {
-    status_of(job.numbers, job.course)
+    let words = job.words;
+    status_of(&words)
 }

@@ -1,9 +1,9 @@
 // Document 01's examples on the job record by value. That the record may be handed to a call is shown from the contracts alone, as are
 // examples 3 and 4; the rest is run, and what it prints, lines and wordings, is compared.
-ghost use Rattle.job.specs.View.{FromCalls};
+ghost use Rattle.engine.specs.Reached.{IsJob};
 use counters::LineAnswer;
-use job::Job;
 use log::Entry;
+use memory::Job;
 
 const PLAN_A: [u8; 17] = [21, 64, 0, 8, 3, 128, 8, 2, 64, 24, 0, 64, 24, 0, 0, 0, 0];
 
@@ -42,8 +42,8 @@ const ONE: [u8; 8] = [21, 64, 0, 8, 0, 0, 0, 0];
 
 // The record after the entries of a log, a call on the record for each.
 fn played(job: Job, log: &[u8]) -> Job
-    requires { ⌜ FromCalls job ⌝ }
-    ensures { λ r. ⌜ FromCalls r ⌝ }
+    requires { ⌜ IsJob job ⌝ }
+    ensures { λ r. ⌜ IsJob r ⌝ }
 {
     let mut now_job = job;
     let mut at = log::first_place(log);
@@ -52,10 +52,10 @@ fn played(job: Job, log: &[u8]) -> Job
             Entry::Grant(g) => {
                 let called = job::grant(now_job, g as u64);
                 now_job = called.job;
-                at = log::next_place(log, at);
+                at = at + 1;
             }
-            Entry::Tick(start, _) => {
-                let past = log::next_place(log, at);
+            Entry::Tick(start, choices) => {
+                let past = start + choices;
                 let called = job::tick(now_job, &log[start..past]);
                 now_job = called.job;
                 at = past;
@@ -75,7 +75,7 @@ fn print_front(buffer: &[u8], size: usize) {
 
 // The counters line of a record.
 fn show_line(job: Job)
-    requires { ⌜ FromCalls job ⌝ }
+    requires { ⌜ IsJob job ⌝ }
 {
     let mut line = [0u8; 128];
     match report::job_line(job, 0, &mut line) {
@@ -86,7 +86,7 @@ fn show_line(job: Job)
 
 // The wording of a record's status, the part of the sheet itself: `refusal [bytes]`.
 fn show_wording(job: Job, sheet: &[u8])
-    requires { ⌜ FromCalls job ⌝ }
+    requires { ⌜ IsJob job ⌝ }
 {
     let mut refusal: u8 = 255;
     let part = report::job_wording(job, sheet, &mut refusal);

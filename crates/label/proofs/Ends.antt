@@ -8,7 +8,7 @@ use native.Mathlib.Omega.{arith}
 use lib.Dec.{ltb}
 use lib.ListN.{length, getD}
 use borrow.Author.Tests.{ltb-true, ltb-false}
-use Rattle.label.specs.Ends.{Counted, Passed, LineEnd}
+use Rattle.label.specs.Ends.{ByteCounted, Passed, LineEnd}
 
 module _ {sheet : List ℕ} where
   pub passed-none : (from : ℕ) → from ≤ length sheet → Passed sheet from from
@@ -71,7 +71,7 @@ module _ (sheet : List ℕ) (at : ℕ) (room : at + 64 ≤ length sheet) where
       let same : at + 0 ≡ at = omega arith in
       record { upto = omega arith; most = omega arith; none = λ zero. rw same (passed-none at (omega arith)) }
 
-  pub block-more : {ends k : ℕ} → InBlock sheet at ends k → k < 64 → (count : ℕ) → Counted (getD sheet (at + k) 0) count
+  pub block-more : {ends k : ℕ} → InBlock sheet at ends k → k < 64 → (count : ℕ) → ByteCounted (getD sheet (at + k) 0) count
       → InBlock sheet at (ends + count) (k + 1)
   block-more {ends} {k} b inside count c =
       let next : at + (k + 1) ≡ at + k + 1 = omega arith in

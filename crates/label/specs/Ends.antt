@@ -5,7 +5,7 @@ use Prim.Native.Nat.{ℕ, _≤_, _<_}
 use lib.ListN.{length, getD}
 
 -- what counts for one byte: at most 1, and 0 for no byte 10
-pub record Counted (byte count : ℕ) : Type 0 where
+pub record ByteCounted (byte count : ℕ) : Type 0 where
   pub most : count ≤ 1
   pub none : count ≡ 0 → byte ≡ 10 → ⊥
 

@@ -7,7 +7,7 @@ ghost use lib.ListN.{length};
 ghost use Rattle.model.specs.Questions.{answer-number};
 ghost use Rattle.model.specs.Label.{label, label-answer, bytes-of};
 ghost use Rattle.label.specs.Found.{found-answer, found-stretch};
-ghost use Rattle.label.specs.Ends.{Counted, Passed, LineEnd};
+ghost use Rattle.label.specs.Ends.{ByteCounted, Passed, LineEnd};
 
 // What looking for a status's line gives. specs/Found.antt gives document 01's number and stretch for each case.
 pub enum Found {
@@ -19,7 +19,7 @@ pub enum Found {
 
 // 1 for byte 10, 0 for any other.
 fn is_end(byte: u8) -> u8
-    ensures { λ r. ⌜ Counted byte r ⌝ }
+    ensures { λ r. ⌜ ByteCounted byte r ⌝ }
 {
     if byte == 10 {
         return 1;

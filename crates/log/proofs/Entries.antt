@@ -1,6 +1,6 @@
 -- The entry at a place of a log is the first of model's entries from that place on, and the others are those from the place past it.
 -- Assumes nothing.
-use mathlib.Core.Path.{_≡_, refl, sym, ap, _∙_}
+use mathlib.Core.Path.{_≡_, refl, ap, _∙_}
 use mathlib.Core.Bool.{Bool, true, false, cond}
 use mathlib.Core.List.{List, [], _∷_}
 use Prim.Native.Nat.{ℕ, zero, suc, _+_, _-_, _≤_, _<_}
@@ -46,7 +46,7 @@ entries-cons first after =
 -- ---- the entry at a place
 
 -- an entry that stands at `at`, with the entries from the place past it
-abbrev from-here : List ℕ → ℕ → Entry → Entries
+abbrev pub from-here : List ℕ → ℕ → Entry → Entries
 from-here log at entry = then-entries log entry (entries (drop (past-entry at entry) log))
 
 -- by the first byte's top bit and by whether so many choices are there
@@ -109,37 +109,27 @@ pub entry-inside : (log : List ℕ) (at : ℕ) → Inside log at (entry-of log a
 unfolding entry-of
 entry-inside log at = place-inside log at (ltb at (length log)) refl
 
--- ---- an entry that was read, and the place past it
+-- ---- an entry that was read
 
-pub record ReadAt (log : List ℕ) (at : ℕ) (entry : Entry) (next : ℕ) : Type 0 where
+pub record ReadAt (log : List ℕ) (at : ℕ) (entry : Entry) : Type 0 where
   pub is : entry-of log at ≡ entry
-  pub leads-to : next ≡ past-entry at entry
 
-pub read-at : {log : List ℕ} {at next : ℕ} {entry : Entry} → entry-of log at ≡ entry → next ≡ past log at → ReadAt log at entry next
-read-at {at = at} is leads-to = record { is = is; leads-to = leads-to ∙ ap (past-entry at) is }
+module _ {log : List ℕ} {at : ℕ} where
+  -- it is inside the log, as an entry of its case
+  inside-read : {entry : Entry} → ReadAt log at entry → Inside log at entry
+  inside-read read = rw (read .is) at (entry-inside log at)
 
-module _ {log : List ℕ} {at next : ℕ} where
-  pub grant-inside : {g : ℕ} → ReadAt log at (Grant g) next → (next ≡ at + 1) × (next ≤ length log)
-  grant-inside {g} read =
-      let within : Inside log at (Grant g) = rw (read .is) at (entry-inside log at) in
-      (read .leads-to, omega (arith, within, read .leads-to))
+  pub grant-inside : {g : ℕ} → ReadAt log at (Grant g) → at < length log
+  grant-inside read = inside-read read
 
-  pub tick-inside : {start count : ℕ} → ReadAt log at (Tick start count) next →
-      (start ≡ at + 1) × (next ≡ start + count) × (next ≤ length log)
-  tick-inside {start} {count} read =
-      let within : Inside log at (Tick start count) = rw (read .is) at (entry-inside log at) in
-      (within .0, read .leads-to, omega (arith, within .1, read .leads-to))
+  pub tick-inside : {start count : ℕ} → ReadAt log at (Tick start count) → (start ≡ at + 1) × (start + count ≤ length log)
+  tick-inside read = inside-read read
 
   -- the entries from there on are those of its case, with those from the place past it
-  pub entries-read : {entry : Entry} → ReadAt log at entry next → entries (drop at log) ≡ then-entries log entry (entries (drop next log))
-  entries-read {entry} read =
-      entries-at log at
-      ∙ ap (from-here log at) (read .is)
-      ∙ ap (λ place. then-entries log entry (entries (drop place log))) (sym (read .leads-to))
+  pub entries-read : {entry : Entry} → ReadAt log at entry → entries (drop at log) ≡ from-here log at entry
+  entries-read read = entries-at log at ∙ ap (from-here log at) (read .is)
 
   -- the choices, as the part of the log from their start to the next entry
-  pub choices-read : {start count : ℕ} → ReadAt log at (Tick start count) next →
-      entries (drop at log) ≡ entry-then (ticks (take (next - start) (drop start log))) (entries (drop next log))
-  choices-read {start} {count} read =
-      let same : next - start ≡ count = omega (arith, read .leads-to) in
-      rw same (entries-read read)
+  pub choices-read : {start count : ℕ} → ReadAt log at (Tick start count) →
+      entries (drop at log) ≡ entry-then (ticks (take (start + count - start) (drop start log))) (entries (drop (start + count) log))
+  choices-read {start} {count} read = let same : start + count - start ≡ count = omega arith in rw same (entries-read read)

@@ -1,7 +1,7 @@
--- Where a run leaves every array entry and number: what `untouched` of its promise says of an empty log, of a log that is broken at its
--- first entry, and of a log whose calls are all refused.
+-- Where a run leaves the job as it came: what `untouched` of its promise says of an empty log, of a log that is broken at its first entry,
+-- and of a log whose calls are all refused.
 -- Assumes nothing.
-use mathlib.Core.Path.{_≡_, refl, sym, ap, _∙_}
+use mathlib.Core.Path.{_≡_, refl, ap, _∙_}
 use mathlib.Core.Bool.{false}
 use mathlib.Core.List.{List, [], _∷_}
 use Prim.Native.Nat.{ℕ, _+_}
@@ -11,11 +11,9 @@ use Rattle.model.specs.Questions.{refused}
 use Rattle.model.specs.Plan.{Plan}
 use Rattle.model.specs.Machine.{State, Call, call-answer, step}
 use Rattle.model.specs.Log.{Ran, entry-whole, entries-up-to, entries, run-calls, run-log}
-use Rattle.deque.specs.declared.Numbers.{Numbers}
-use Rattle.engine.specs.declared.Course.{Course}
-use Rattle.engine.specs.View.{state-view}
-use Rattle.log.specs.declared.Ran.{Ran as Ended}
-use Rattle.log.specs.Running.{Untouched, Runs}
+use Rattle.memory.specs.declared.Job.{Job}
+use Rattle.memory.specs.Jobs.{job-state}
+use Rattle.log.specs.Running.{Runs}
 use Rattle.log.proofs.Entries.{entries-cons}
 use Rattle.log.proofs.Running.{called}
 
@@ -40,26 +38,21 @@ refused-each plan (call ∷ calls) s refusals all =
     ∙ refused-each plan calls s (refusals + 1) (all .1)
     ∙ omega arith
 
--- a run of a log: from the job in pending, next, ends, m and c to that in the primed arrays and `ran`
-module _ {log first second pending next ends : List ℕ} {m : Numbers} {c : Course} {pending′ next′ ends′ : List ℕ} {ran : Ended}
-    (runs : Runs log first second pending next ends m c pending′ next′ ends′ ran)
-  where
-    -- a log with no whole entry
-    no-whole-entry : entries log .calls ≡ [] → Untouched pending next ends m c pending′ next′ ends′ (ran .numbers) (ran .course)
-    unfolding run-log run-calls
-    no-whole-entry none = runs .untouched (rw none refl)
+module _ {log : List ℕ} {job job′ : Job} (runs : Runs log job job′) where
+  -- a log with no whole entry
+  no-whole-entry : entries log .calls ≡ [] → job′ ≡ job
+  unfolding run-log run-calls
+  no-whole-entry none = runs .untouched (rw none refl)
 
-    pub after-an-empty-log : log ≡ [] → Untouched pending next ends m c pending′ next′ ends′ (ran .numbers) (ran .course)
-    unfolding entries entries-up-to
-    after-an-empty-log empty = no-whole-entry (rw empty refl)
+  pub after-an-empty-log : log ≡ [] → job′ ≡ job
+  unfolding entries entries-up-to
+  after-an-empty-log empty = no-whole-entry (rw empty refl)
 
-    -- the first entry is broken: fewer bytes come after its first than it announces
-    pub after-a-broken-start : (byte : ℕ) (after : List ℕ) → log ≡ byte ∷ after → entry-whole byte after ≡ false →
-        Untouched pending next ends m c pending′ next′ ends′ (ran .numbers) (ran .course)
-    after-a-broken-start byte after is broken = no-whole-entry (rw (is, entries-cons byte after, broken) refl)
+  -- the first entry is broken: fewer bytes come after its first than it announces
+  pub after-a-broken-start : (byte : ℕ) (after : List ℕ) → log ≡ byte ∷ after → entry-whole byte after ≡ false → job′ ≡ job
+  after-a-broken-start byte after is broken = no-whole-entry (rw (is, entries-cons byte after, broken) refl)
 
-    -- every call is refused when it is asked of the state that the run began with
-    pub after-refusals-only : AllRefused (state-view pending next ends m c) (entries log .calls) →
-        Untouched pending next ends m c pending′ next′ ends′ (ran .numbers) (ran .course)
-    unfolding run-log
-    after-refusals-only all = runs .untouched (refused-each _ (entries log .calls) (state-view pending next ends m c) 0 all ∙ omega arith)
+  -- every call is refused when it is asked of the state that the run began with
+  pub after-refusals-only : AllRefused (job-state job) (entries log .calls) → job′ ≡ job
+  unfolding run-log
+  after-refusals-only all = runs .untouched (refused-each _ (entries log .calls) (job-state job) 0 all ∙ omega arith)

@@ -1,16 +1,13 @@
 // The day log: lent bytes, read entry after entry, and run on a job in place. `specs/Reading.antt` says what is read, and
 // `specs/Running.antt` what a run promises.
 ghost use mathlib.Core.Path.{_≡_};
-ghost use Prim.Native.Nat.{_+_, _^_, _<_};
-ghost use Rattle.model.specs.Log.{refusals-in};
+ghost use Rattle.model.specs.Log.{refusals-in, log-answer};
+ghost use Rattle.memory.specs.Jobs.{job};
 ghost use Rattle.engine.specs.Answers.{answer-of};
 ghost use Rattle.engine.specs.Reached.{IsJob};
 ghost use Rattle.log.specs.Reading.{entry-of, past, started, entry-here, passed};
-ghost use Rattle.log.specs.Running.{counted-at, ended-at, Runs};
-use deque::Numbers;
+ghost use Rattle.log.specs.Running.{log-answer-of, run-of, Runs};
 use engine::CallAnswer;
-use engine::Course;
-use engine::Moved;
 
 // What stands at a place of a log: a grant's count; a tick's choices, as where they start and how many they are; an entry that is not
 // whole; or nothing more.
@@ -94,33 +91,10 @@ pub fn read_entry(log: &[u8], at: usize) -> Entry
     next_entry(LogReader { log, at })
 }
 
-// The place of the reader past that entry.
-pub fn next_place(log: &[u8], at: usize) -> usize
-    ensures { λ r. ⌜ r ≡ past (now (log .entry)) at ⌝ }
-{
-    past_entry(LogReader { log, at }).at
-}
-
-// How far a log was run: the job's numbers, the refused calls so far, and where the next entry stands.
-pub struct Place {
-    pub numbers: Numbers,
-    pub course: Course,
-    pub refusals: u64,
-    pub at: usize,
-}
-
 // The log's own answer, whose number log-answer-of gives: every entry was whole, or a broken one ended it (18).
 pub enum LogAnswer {
     Whole,
     BrokenEntry,
-}
-
-// What a log left: the job's numbers, how many calls were refused, and the answer.
-pub struct Ran {
-    pub numbers: Numbers,
-    pub course: Course,
-    pub refusals: u64,
-    pub answer: LogAnswer,
 }
 
 // 1 for a refused call, 0 for an accepted one.
@@ -139,84 +113,42 @@ fn refused(answer: CallAnswer) -> u64
     }
 }
 
-// The place after a call.
-fn counted(moved: Moved, refusals: u64, at: usize) -> Place
-    requires { ⌜ refusals + 1 < 2 ^ 64 ⌝ }
-    ensures { λ r. ⌜ r ≡ counted-at moved refusals at ⌝ }
-{
-    let answer = moved.answer;
-    let numbers = moved.numbers;
-    let course = moved.course;
-    let more = refused(answer);
-    Place {
-        numbers,
-        course,
-        refusals: refusals + more,
-        at,
-    }
-}
-
-// The log ended at this place.
-fn ended(place: Place, answer: LogAnswer) -> Ran
-    ensures { λ r. ⌜ r ≡ ended-at place answer ⌝ }
-{
-    let numbers = place.numbers;
-    let course = place.course;
-    Ran {
-        numbers,
-        course,
-        refusals: place.refusals,
-        answer,
-    }
-}
-
-// A log of any bytes, run on a job in place, entry after entry. A refused call changes nothing, is counted beside the job, and the next entry
-// follows. A broken entry ends the log with the job and the count as the entries before it left them.
+// A log of any bytes, run on a job in place, entry after entry. A refused call changes nothing, is counted behind `refusals`, and the next
+// entry follows. A broken entry ends the log with the job and the count as the entries before it left them.
 pub fn run(
-    first: &[u16; 1024],
-    second: &[u16; 1024],
-    pending: &mut [u8; 1024],
-    next: &mut [u16; 1024],
-    ends: &mut [u16; 256],
-    m: Numbers,
-    c: Course,
+    memory: &mut [u16; 4352],
+    words: &mut [u64; 18],
     log: &[u8],
-) -> Ran
-    requires { ⌜ IsJob (now first) (now second) (now pending) (now next) (now ends) m c ⌝ }
-    ensures { λ r. ⌜ Runs (now (log .entry)) (now (first .entry)) (now (second .entry)) (now (pending .entry)) (now (next .entry)) (now (ends .entry)) m c (now (pending .exit)) (now (next .exit)) (now (ends .exit)) r ⌝ }
+    refusals: &mut u64,
+) -> LogAnswer
+    requires { ⌜ IsJob (job memory words) ⌝ }
+    ensures answered { λ r. ⌜ log-answer-of r ≡ log-answer (now (log .entry)) ⌝ }
+    ensures counted { λ _. ⌜ now (refusals .exit) ≡ run-of (now (log .entry)) (job (memory .entry) (words .entry)) .refusals ⌝ }
+    ensures runs { λ _. ⌜ Runs (now (log .entry)) (job (memory .entry) (words .entry)) (job (memory .exit) (words .exit)) ⌝ }
 {
-    let mut place = Place {
-        numbers: m,
-        course: c,
-        refusals: 0,
-        at: first_place(log),
-    };
+    let mut count = 0u64;
+    let mut at = first_place(log);
     loop {
-        let numbers = place.numbers;
-        let course = place.course;
-        let refusals = place.refusals;
-        let at = place.at;
         match read_entry(log, at) {
             Entry::Grant(g) => {
-                let moved = engine::grant(ends, numbers, course, g as u64);
-                place = counted(moved, refusals, next_place(log, at));
+                let answer = engine::grant(memory, words, g as u64);
+                count = count + refused(answer);
+                at = at + 1;
             }
-            Entry::Tick(start, _) => {
-                let past = next_place(log, at);
-                let moved = engine::tick(
-                    first,
-                    second,
-                    pending,
-                    next,
-                    ends,
-                    numbers,
-                    course,
-                    &log[start..past],
-                );
-                place = counted(moved, refusals, past);
+            Entry::Tick(start, choices) => {
+                let past = start + choices;
+                let answer = engine::tick(memory, words, &log[start..past]);
+                count = count + refused(answer);
+                at = past;
             }
-            Entry::Broken => return ended(place, LogAnswer::BrokenEntry),
-            Entry::End => return ended(place, LogAnswer::Whole),
+            Entry::Broken => {
+                *refusals = count;
+                return LogAnswer::BrokenEntry;
+            }
+            Entry::End => {
+                *refusals = count;
+                return LogAnswer::Whole;
+            }
         }
     }
 }

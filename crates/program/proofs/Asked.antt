@@ -62,9 +62,9 @@ module _ (input : List ℕ) (r : Output) where
       pub cut-short : length input < end → Prints (refused-line 22) r → Prints (program input) r
       unfolding input-questions first-no
       cut-short h =
+          let short : length input < 2 + plan-length input = omega (arith, length-read input) in
           prints (refused 22)
-          (rw
-          (le-leb (length input) 65536 fits, le-leb 2 (length input) two, lt-leb (2 + plan-length input) (length input) (omega (arith, length-read input))))
+          (rw (le-leb (length input) 65536 fits, le-leb 2 (length input) two, lt-leb (2 + plan-length input) (length input) short))
 
       plan-part-is : plan-part input ≡ take (end - 2) (drop 2 input)
       unfolding plan-part
@@ -81,11 +81,13 @@ module _ (input : List ℕ) (r : Output) where
       all-there : end ≤ length input → first-no (input-questions input) ≡ accepted
       unfolding input-questions first-no
       all-there h =
-          rw
-          (le-leb (length input) 65536 fits, le-leb 2 (length input) two, le-leb (2 + plan-length input) (length input) (omega (arith, length-read input)))
+          let whole : 2 + plan-length input ≤ length input = omega (arith, length-read input) in
+          rw (le-leb (length input) 65536 fits, le-leb 2 (length input) two, le-leb (2 + plan-length input) (length input) whole)
 
-      pub whole-input : end ≤ length input → (plan log : List ℕ) → plan ≡ take (end - 2) (drop 2 input) → log ≡ take (length input - end) (drop end input)
+      pub whole-input : end ≤ length input → (plan log : List ℕ) → plan ≡ take (end - 2) (drop 2 input)
+          → log ≡ take (length input - end) (drop end input)
           → Prints (output-by (plan-answer plan) (log-output (plan-of plan) log)) r → Prints (program input) r
       whole-input h plan log plan-is log-is p =
-          let to-the-end : log ≡ drop end input = log-is ∙ take-all (length input - end) (drop end input) (omega (arith, length-drop end input)) in
+          let to-the-end : log ≡ drop end input =
+          log-is ∙ take-all (length input - end) (drop end input) (omega (arith, length-drop end input)) in
           prints accepted (all-there h) (rw (plan-part-is, log-part-is) (rw (plan-is, to-the-end) at p))

@@ -104,7 +104,8 @@ pub read-back : (x b b' : List ℕ) (size : ℕ) → size ≡ length x → b' �
 read-back x b b' size e f = ap (take size) f ∙ take-at x (drop (length x) b) size (sym e)
 
 -- what was put at the start alone
-pub prints-one : (x b b' : List ℕ) (size : ℕ) → size ≡ 0 + length x → b' ≡ put 0 x b → length x ≤ length b → Prints x (record { bytes = b'; size = size })
+pub prints-one : (x b b' : List ℕ) (size : ℕ) → size ≡ 0 + length x → b' ≡ put 0 x b → length x ≤ length b →
+    Prints x (record { bytes = b'; size = size })
 prints-one x b b' size e f room =
     let same : length b' ≡ length b = ap length f ∙ length-put 0 x b (omega arith) in
     record { written = read-back x b b' size (omega arith) (f ∙ put-start x b); fits = omega arith }

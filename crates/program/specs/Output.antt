@@ -3,18 +3,14 @@ use mathlib.Core.Path.{_≡_}
 use mathlib.Core.List.{List, _++_}
 use Prim.Native.Nat.{ℕ, _≤_}
 use lib.ListN.{length, take}
-use Rattle.model.specs.Plan.{Plan}
-use Rattle.model.specs.Machine.{Call}
-use Rattle.model.specs.Counters.{spaced, counters, counters-line, put-at-start}
+use Rattle.model.specs.Counters.{spaced, counters-line, put-at-start}
 use Rattle.model.specs.Program.{refused-lines}
-use Rattle.engine.specs.View.{state-view}
-use Rattle.engine.specs.Reached.{Reached}
+use Rattle.memory.specs.Jobs.{lent, job-plan, job-state}
+use Rattle.engine.specs.Reached.{IsJob}
 use Rattle.counters.specs.declared.Counters.{Counters}
-use Rattle.report.specs.Shown as Shown
 use Rattle.counters.specs.Line.{numbers-of}
-use Rattle.job.specs.declared.Job.{Job}
-use Rattle.log.specs.declared.Ran.{Ran}
-use Rattle.log.specs.Running.{Runs, log-answer-of}
+use Rattle.log.specs.declared.LogAnswer.{LogAnswer}
+use Rattle.log.specs.Running.{log-answer-of}
 use Rattle.program.specs.declared.Output.{Output}
 
 -- the output's bytes are these
@@ -28,21 +24,8 @@ pub record LinePut (k : Counters) (b exit : List ℕ) (size : ℕ) : Type 0 wher
   pub short : size ≤ 127
   pub bytes : exit ≡ put-at-start (spaced (numbers-of k)) b
 
--- what a log left of a record: some arrays, and the numbers
-pub record RanOn (log : List ℕ) (job : Job) (ran : Ran) : Type 0 where
-  pub pending : List ℕ
-  pub next : List ℕ
-  pub ends : List ℕ
-  pub runs : Runs log (job .first) (job .second) (job .pending) (job .next) (job .ends) (job .numbers) (job .course) pending next ends ran
-
--- the ten numbers are those that are shown of the job, with the log's refused calls
-abbrev pub CountersOf : Ran → Counters → Type 0
-CountersOf ran r = Shown.CountersOf (ran .numbers) (ran .course) (ran .refusals) r
-
--- "after 18 the count line first, then `refused 18`", whatever arrays make the numbers a job
-pub record PrintsRan (ran : Ran) (r : Output) : Type 0 where
-  pub right : (plan : Plan) (calls : List Call) (first second pending next ends : List ℕ) →
-      Reached plan calls first second pending next ends (ran .numbers) (ran .course) →
-      Prints
-      (counters-line plan (state-view pending next ends (ran .numbers) (ran .course)) (ran .refusals) ++ refused-lines (log-answer-of (ran .answer)))
-      r
+-- "after 18 the count line first, then `refused 18`", whatever memory makes the words a job
+pub record PrintsRan (words : List ℕ) (refusals : ℕ) (answer : LogAnswer) (r : Output) : Type 0 where
+  pub right : (memory : List ℕ) → IsJob (lent memory words) →
+      let line = counters-line (job-plan (lent memory words)) (job-state (lent memory words)) refusals in
+      Prints (line ++ refused-lines (log-answer-of answer)) r

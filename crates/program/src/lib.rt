@@ -5,13 +5,11 @@ ghost use lib.ListN.{length};
 ghost use Rattle.model.specs.Plan.{plan-of, plan-answer};
 ghost use Rattle.model.specs.Program.{refused-line, log-output, output-by, program};
 ghost use Rattle.counters.specs.Put.{put};
-ghost use Rattle.job.specs.View.{FromCalls, JobNumbers};
-ghost use Rattle.program.specs.Output.{Prints, LinePut, RanOn, CountersOf, PrintsRan};
+ghost use Rattle.engine.specs.Reached.{JobWords};
+ghost use Rattle.program.specs.Output.{Prints, LinePut, PrintsRan};
 use counters::Counters;
 use counters::LineAnswer;
-use job::Job;
 use log::LogAnswer;
-use log::Ran;
 
 // What is printed: the first `size` of the bytes. The longest output is a counters line and `refused 18`, 138 bytes.
 pub struct Output {
@@ -71,24 +69,13 @@ fn put_line(counters: Counters, out: &mut [u8]) -> usize
     }
 }
 
-// The ten numbers after a log.
-fn counters_of(ran: Ran) -> Counters
-    requires { ⌜ JobNumbers (ran .numbers) (ran .course) ⌝ }
-    ensures { λ r. ⌜ CountersOf ran r ⌝ }
+// The counters line of a job's words, and after a broken log `refused 18`.
+fn ran_output(words: &[u64; 18], refusals: u64, answer: LogAnswer) -> Output
+    requires { ⌜ JobWords (now words) ⌝ }
+    ensures { λ r. ⌜ PrintsRan (now (words .entry)) refusals answer r ⌝ }
 {
-    let m = ran.numbers;
-    let c = ran.course;
-    report::counters_of(m, c, ran.refusals)
-}
-
-// The counters line, and after a broken log `refused 18`.
-fn ran_output(ran: Ran) -> Output
-    requires { ⌜ JobNumbers (ran .numbers) (ran .course) ⌝ }
-    ensures { λ r. ⌜ PrintsRan ran r ⌝ }
-{
-    let answer = ran.answer;
     let mut bytes = [0u8; 256];
-    let size = put_line(counters_of(ran), &mut bytes);
+    let size = put_line(report::counters_of(words, refusals), &mut bytes);
     if let LogAnswer::BrokenEntry = answer {
         let end = put_refusal(&mut bytes, size, 18);
         return Output { bytes, size: end };
@@ -96,39 +83,20 @@ fn ran_output(ran: Ran) -> Output
     Output { bytes, size }
 }
 
-// A log run on a record, on copies of its arrays.
-fn run_log(job: Job, log: &[u8]) -> Ran
-    requires { ⌜ FromCalls job ⌝ }
-    ensures { λ r. ⌜ RanOn (now (log .entry)) job r ⌝ }
-{
-    let first = job.first;
-    let second = job.second;
-    let mut pending = job.pending;
-    let mut next = job.next;
-    let mut ends = job.ends;
-    log::run(
-        &first,
-        &second,
-        &mut pending,
-        &mut next,
-        &mut ends,
-        job.numbers,
-        job.course,
-        log,
-    )
-}
-
-// The plan and then the log: with a refused plan nothing of the log is looked at.
+// The plan and then the log, in place in one memory: with a refused plan nothing of the log is looked at.
 fn plan_output(plan: &[u8], log: &[u8]) -> Output
-    ensures { λ r. ⌜ Prints (output-by (plan-answer (now (plan .entry))) (log-output (plan-of (now (plan .entry))) (now (log .entry)))) r ⌝ }
+    ensures { λ r. ⌜ Prints (output-by (plan-answer (now (plan .entry)))
+        (log-output (plan-of (now (plan .entry))) (now (log .entry)))) r ⌝ }
 {
-    let acceptance = job::accept(plan);
-    let answer = acceptance.answer;
+    let mut memory = [0u16; 4352];
+    let mut words = [0u64; 18];
+    let answer = engine::accept(plan, &mut memory, &mut words);
     if !plan::passed(answer) {
         return refusal(plan::number(answer));
     }
-    let job = acceptance.job;
-    ran_output(run_log(job, log))
+    let mut refusals = 0u64;
+    let ran = log::run(&mut memory, &mut words, log, &mut refusals);
+    ran_output(&words, refusals, ran)
 }
 
 // What the program prints of its input.

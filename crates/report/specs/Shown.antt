@@ -2,17 +2,13 @@
 use mathlib.Core.Path.{_≡_}
 use mathlib.Core.List.{List}
 use Prim.Native.Nat.{ℕ}
-use Rattle.model.specs.Plan.{Plan}
-use Rattle.model.specs.Machine.{Call}
 use Rattle.model.specs.Counters.{counters}
-use Rattle.deque.specs.declared.Numbers.{Numbers}
-use Rattle.engine.specs.declared.Course.{Course}
-use Rattle.engine.specs.View.{state-view}
-use Rattle.engine.specs.Reached.{Reached}
+use Rattle.memory.specs.Jobs.{lent, job-plan, job-state}
+use Rattle.engine.specs.Reached.{IsJob}
 use Rattle.counters.specs.declared.Counters.{Counters}
 use Rattle.counters.specs.Line.{numbers-of}
 
--- whatever arrays make the numbers a job
-pub record CountersOf (m : Numbers) (c : Course) (refusals : ℕ) (r : Counters) : Type 0 where
-  pub right : (plan : Plan) (calls : List Call) (first second pending next ends : List ℕ) →
-      Reached plan calls first second pending next ends m c → numbers-of r ≡ counters plan (state-view pending next ends m c) refusals
+-- whatever memory makes the words a job
+pub record CountersOf (words : List ℕ) (refusals : ℕ) (r : Counters) : Type 0 where
+  pub right : (memory : List ℕ) → IsJob (lent memory words) →
+      numbers-of r ≡ counters (job-plan (lent memory words)) (job-state (lent memory words)) refusals

@@ -8,35 +8,33 @@ ghost use Rattle.model.specs.Machine.{status};
 ghost use Rattle.model.specs.Label.{label, label-answer, bytes-of};
 ghost use Rattle.model.specs.Counters.{counters-line, counters-answer, buffer-after};
 ghost use Rattle.counters.specs.Line.{line-answer, line-length};
-ghost use Rattle.job.specs.View.{FromCalls, JobNumbers, job-plan, job-state};
+ghost use Rattle.memory.specs.Jobs.{job-plan, job-state};
+ghost use Rattle.engine.specs.Reached.{IsJob, JobWords};
 ghost use Rattle.report.specs.Shown.{CountersOf};
 use counters::Counters;
 use counters::LineAnswer;
-use deque::Numbers;
-use engine::Course;
-use job::Job;
+use memory::Job;
 
-// The ten numbers of a job, with a log's count of refused calls, 0 without a log.
-pub fn counters_of(m: Numbers, c: Course, refusals: u64) -> Counters
-    requires { ⌜ JobNumbers m c ⌝ }
-    ensures { λ r. ⌜ CountersOf m c refusals r ⌝ }
+// The ten numbers of a job, off its words, with a log's count of refused calls, 0 without a log.
+pub fn counters_of(words: &[u64; 18], refusals: u64) -> Counters
+    requires { ⌜ JobWords (now words) ⌝ }
+    ensures { λ r. ⌜ CountersOf (now (words .entry)) refusals r ⌝ }
 {
-    let works = m.works;
-    let mugs = m.mugs;
-    let steals = m.steals;
-    let work = works.number();
-    let mug = mugs.number();
-    let steal = steals.number();
+    let status = job::status_of(words);
+    let worked = words[2] as u16;
+    let tasks = words[0] as u16;
+    let desire = words[13] as u8;
+    let allotment = words[1] as u8;
     Counters {
-        status: job::status_of(m, c),
-        worked: m.done,
-        tasks: m.tasks,
-        desire: c.desire,
-        allotment: m.workers,
-        work,
-        mug,
-        steal,
-        successes: m.successes,
+        status,
+        worked,
+        tasks,
+        desire,
+        allotment,
+        work: words[3],
+        mug: words[4],
+        steal: words[5],
+        successes: words[6],
         refusals,
     }
 }
@@ -44,20 +42,21 @@ pub fn counters_of(m: Numbers, c: Course, refusals: u64) -> Counters
 // Writes a record's counters line at the start of a buffer of 128 bytes or more, and answers how many bytes it has; a smaller buffer stays
 // as it is.
 pub fn job_line(job: Job, refusals: u64, buffer: &mut [u8]) -> LineAnswer
-    requires { ⌜ FromCalls job ⌝ }
+    requires { ⌜ IsJob job ⌝ }
     ensures answer { λ r. ⌜ line-answer r ≡ counters-answer (now (buffer .entry)) ⌝ }
     ensures size { λ r. ⌜ line-length r
         ≡ by-answer (counters-answer (now (buffer .entry))) (length (counters-line (job-plan job) (job-state job) refusals)) 0 ⌝ }
     ensures bytes { λ _. ⌜ now (buffer .exit) ≡ buffer-after (job-plan job) (job-state job) refusals (now (buffer .entry)) ⌝ }
 {
-    let shown = counters_of(job.numbers, job.course, refusals);
+    let words = job.words;
+    let shown = counters_of(&words, refusals);
     counters::write_line(shown, buffer)
 }
 
 // The wording of a record's status: the part of the lent sheet itself, where it stands there, with 0 behind `refusal`. Where the sheet has
 // no such line, the empty part at its start, with 19 behind `refusal`.
 pub fn job_wording<'a>(job: Job, sheet: &'a [u8], refusal: &mut u8) -> &'a [u8]
-    requires { ⌜ FromCalls job ⌝ }
+    requires { ⌜ IsJob job ⌝ }
     ensures bytes { λ r. ⌜ now r ≡ bytes-of (now (sheet .entry)) (label (now (sheet .entry)) (status (job-state job))) ⌝ }
     ensures place { λ r. ⌜ ptr r
         ≡ (ptr (sheet .entry) .0, ptr (sheet .entry) .1 + label (now (sheet .entry)) (status (job-state job)) .start) ⌝ }

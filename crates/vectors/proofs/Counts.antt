@@ -67,14 +67,14 @@ one-at-most true = omega arith
 one-at-most false = omega arith
 
 module _ (set : List ℕ) where
-  pub record SoFar (cases same at : ℕ) : Type 0 where
+  pub record CasesSoFar (cases same at : ℕ) : Type 0 where
     pub counted : cases + length (stored (drop at set) .cases) ≡ length (stored set .cases)
     pub said-so-far : same + said (stored (drop at set) .cases) ≡ said (stored set .cases)
     pub whole-left : stored (drop at set) .whole ≡ stored set .whole
     pub few : (same ≤ cases) × (cases ≤ at)
     pub inside : at ≤ length set
 
-  pub starts : SoFar 0 0 0
+  pub starts : CasesSoFar 0 0 0
   starts =
       record {
         counted = omega arith;
@@ -84,13 +84,13 @@ module _ (set : List ℕ) where
         inside = omega arith;
       }
 
-  module _ (cases same at : ℕ) (so-far : SoFar cases same at) where
+  module _ (cases same at : ℕ) (so-far : CasesSoFar cases same at) where
     -- one case more
     pub one-more : (input expected place next end : ℕ) (right : Bool) (more : ℕ) → CaseHere set at input expected →
         place ≡ at + 3 + input → next ≡ place + 1 → end ≡ next + expected →
         right ≡ same-bytes (program (take (place - (at + 3)) (drop (at + 3) set))) (take (end - next) (drop next set)) →
         more ≡ cond right 1 0 →
-        SoFar (cases + 1) (same + more) end
+        CasesSoFar (cases + 1) (same + more) end
     one-more input expected place next end right more here place-is next-is end-is right-is more-is =
         let case : Case = record { input = take input (drop (at + 3) set); expected = take expected (drop (at + 4 + input) set) } in
         let after : at + (4 + input + expected) ≡ end = omega arith in

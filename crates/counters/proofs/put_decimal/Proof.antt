@@ -35,10 +35,11 @@ same-length c = search needs
 
 returns-3 : tie.Need-returns-3
 returns-3 c =
-    let counted = c .before .before .before .before .before .before in
+    let put = c .before .before in
+    let counted = put .before .before .before .before in
     let s = counted .before .before .args in
     let fits = has-room (s .at) (decimal (s .n)) (s .buffer .now) (omega arith) in
-    (ap (λ (n : ℕ). s .at + n) (counted .count-digits .ensures) ∙ fits .0, c .before .before .put-digits .ensures ∙ fits .1)
+    (ap (λ (n : ℕ). s .at + n) (counted .count-digits .ensures) ∙ fits .0, put .put-digits .ensures ∙ fits .1)
 
 pub put-decimal-spec : {M : Type 1} → statement M
 put-decimal-spec =

@@ -58,13 +58,16 @@ put-pair-requires-2 c κs =
     (most, spelling-two (c .before .before .before .loop .inv) (c .before .if1 .left) most .0)
 
 same-length-2 : tie.Need-same-length-2 Inv-loop μ-loop
-same-length-2 c = c .before .before .put-pair2 .kept .0 ∙ c .before .before .before .before .before .before .loop .inv .same-length
+same-length-2 c =
+    let put = c .before .before in
+    put .put-pair2 .kept .0 ∙ put .before .before .before .before .loop .inv .same-length
 
 returns-2 : tie.Need-returns-2 Inv-loop μ-loop
 returns-2 c =
-    let at-loop = c .before .before .before .before .before .before in
-    let most = c .before .before .before .before .before .loop-test .left in
-    c .before .before .put-pair2 .ensures ∙ spelling-two (at-loop .loop .inv) (c .before .before .before .before .if1 .left) most .1
+    let put = c .before .before in
+    let at-loop = put .before .before .before .before in
+    let most = put .before .before .before .loop-test .left in
+    put .put-pair2 .ensures ∙ spelling-two (at-loop .loop .inv) (put .before .before .if1 .left) most .1
 
 pub put-digits-spec : {M : Type 1} → statement M
 put-digits-spec =

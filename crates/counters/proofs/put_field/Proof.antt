@@ -9,16 +9,20 @@ use Rattle.model.specs.Counters.{decimal}
 use Rattle.counters.specs.Put.{put}
 use Rattle.counters.proofs.Decimal.{one-long, two-long, two-digits}
 use Rattle.counters.proofs.Digits.{digit-stored}
-use Rattle.counters.proofs.Put.{Ended, ended-at, piece-room}
+use Rattle.counters.proofs.Put.{PutUpTo, ended-at, piece-room}
 use Rattle.counters.proofs.put_field.Statement.{statement}
 use Rattle.counters.proofs.put_field.Tie as tie
 
 -- what is known at the entry
 abbrev start-two : tie.After-slice-known2 → tie.Start
-start-two c = c .before .before .before .before .before .before .before
+start-two c =
+    let put = c .before .before in
+    put .before .before .before .before .before
 
 abbrev start-more : tie.After-slice-known3 → tie.Start
-start-more c = c .before .before .before .before .before .before .before .before
+start-more c =
+    let counted = c .before .before .before .before in
+    counted .before .before .before .before
 
 inside : (s : tie.Start) → s .args .at + length (decimal (s .args .n)) < length (s .args .buffer .now)
 inside s = piece-room (s .args .at) (decimal (s .args .n)) (s .args .end) (s .args .buffer .now) (s .pre)
@@ -28,7 +32,7 @@ one-inside c = omega (arith, inside (c .before .before), one-long (c .before .be
 
 -- what is put of one digit, of two and of more
 one : (c : tie.Then1) → let s = c .before .before .args in
-    Ended (s .at) (decimal (s .n)) (s .end) (s .buffer .now) (set (s .buffer .now) (s .at) (48 + s .n)) (s .at + 1)
+    PutUpTo (s .at) (decimal (s .n)) (s .end) (s .buffer .now) (set (s .buffer .now) (s .at) (48 + s .n)) (s .at + 1)
 one c =
     let s = c .before .before .args in
     let h = c .if1 .taken in
@@ -36,7 +40,7 @@ one c =
     (digit-stored (s .at) (s .n) (s .buffer .now) h (omega (arith, one-inside c)))
 
 pair-there : (c : tie.After-slice-known2) → let s = start-two c .args in
-    Ended (s .at) (decimal (s .n)) (s .end) (s .buffer .now) (c .before .before .put-pair .last .0) (s .at + 2)
+    PutUpTo (s .at) (decimal (s .n)) (s .end) (s .buffer .now) (c .before .before .put-pair .last .0) (s .at + 2)
 pair-there c =
     let s = start-two c .args in
     let least = c .before .before .before .before .before .if1 .left in
@@ -45,7 +49,7 @@ pair-there c =
     (c .before .before .put-pair .ensures ∙ ap (λ (t : List ℕ). put (s .at) t (s .buffer .now)) (sym (two-digits (s .n) least most)))
 
 more : (c : tie.After-slice-known3) → let s = start-more c .args in
-    Ended (s .at) (decimal (s .n)) (s .end) (s .buffer .now) (c .before .before .put-digits .last .0)
+    PutUpTo (s .at) (decimal (s .n)) (s .end) (s .buffer .now) (c .before .before .put-digits .last .0)
     (s .at + c .before .before .before .before .count-digits .result)
 more c =
     ended-at _ _ _ _ _ _ (start-more c .pre) (omega (arith, c .before .before .before .before .count-digits .ensures))

@@ -17,8 +17,10 @@ numbers-requires c κs = search needs
 put-numbers-requires : tie.Need-put-numbers-requires
 put-numbers-requires c κs =
     let k = c .before in
-    let s = k .before .before .before in
-    (rw (k .numbers .ensures) (omega arith), line-room (s .args .counters) (s .args .buffer .now) _ (k .numbers .ensures) (k .before .if1 .left) (wide s))
+    let s = k .before .before .before in (
+      rw (k .numbers .ensures) (omega arith),
+      line-room (s .args .counters) (s .args .buffer .now) _ (k .numbers .ensures) (k .before .if1 .left) (wide s),
+    )
 
 same-length : tie.Need-same-length
 same-length c = search needs
@@ -28,7 +30,8 @@ returns-2 c =
     let called = c .before .before .put-numbers in
     let k = c .before .before .before .before in
     let s = k .before .before .before in
-    line-written (s .args .counters) (s .args .buffer .now) _ (k .numbers .ensures) (k .before .if1 .left) _ _ (called .ensures .0) (called .ensures .1)
+    line-written (s .args .counters) (s .args .buffer .now) _ (k .numbers .ensures) (k .before .if1 .left) _ _
+    (called .ensures .0) (called .ensures .1)
 
 pub write-line-spec : {M : Type 1} → statement M
 write-line-spec = tie.close (tie.spec returns numbers-requires put-numbers-requires same-length returns-2)

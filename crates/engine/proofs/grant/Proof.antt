@@ -1,42 +1,55 @@
 -- `engine::grant` meets its contract: a refused grant leaves the job, and an accepted one is the model's grant.
 -- Assumes nothing.
 use mathlib.Core.Path.{_≡_, sym, ap, _∙_}
-use native.Mathlib.Omega.{arith}
 use borrow.Author.Needs.{needs}
+use denote.Ref.{now}
 use Rattle.model.specs.Questions.{accepted, first-no}
+use Rattle.model.specs.Machine.{grants, call-answer}
+use Rattle.memory.specs.declared.Job.{Job}
+use Rattle.memory.specs.Jobs.{lent, job-state}
 use Rattle.engine.specs.Answers.{answer-of}
 use Rattle.engine.specs.Asked.{grant-asked}
 use Rattle.engine.proofs.Answers.{refusing}
-use Rattle.engine.proofs.Granting.{begun-fits, grantable, refused-grant, accepted-grant}
+use Rattle.engine.proofs.Asking.{grant-asking}
+use Rattle.engine.proofs.Moving.{refused-moves}
+use Rattle.engine.proofs.Granting.{begun-fits, grantable, granted-moves}
 use Rattle.engine.proofs.grant.Statement.{statement}
 use Rattle.engine.proofs.grant.Tie as tie
 
+-- the function's entry, and the job that it got
+abbrev entry : tie.After-grant-answer → tie.Start
+entry c = c .before .before
+
+abbrev job : tie.After-grant-answer → Job
+job c = lent (now (entry c .args .memory)) (now (entry c .args .words))
+
+answered : (c : tie.After-grant-answer) → answer-of (c .grant-answer .result) ≡ call-answer (grants (entry c .args .g)) (job-state (job c))
+answered c = c .grant-answer .ensures ∙ sym (grant-asking (job c) (entry c .pre .2 .kept .done-right) (entry c .args .g))
+
 -- on the accepting way no question refuses
-no-question-refuses : (c : tie.After-enum-told) → first-no (grant-asked (c .before .before .before .args .m) (c .before .before .before .args .c) (c .before .before .before .args .g)) ≡ accepted
-no-question-refuses c = sym (c .before .before .grant-answer .ensures) ∙ ap answer-of (c .enum-told .given .1)
-
-grant-answer-requires : tie.Need-grant-answer-requires
-grant-answer-requires c κs = search needs
-
-enum-told : tie.Need-enum-told
-enum-told c = search needs
+asked : (c : tie.After-enum-told) → first-no (grant-asked (job (c .before .before) .words) (entry (c .before .before) .args .g)) ≡ accepted
+asked c = sym (c .before .before .grant-answer .ensures) ∙ ap answer-of (c .enum-told .given .1)
 
 returns : tie.Need-returns
-returns c = refused-grant _ (c .before .grant-answer .ensures) (refusing _ (c .match .keys2))
-
-cast-workers : tie.Need-cast-workers
-cast-workers c = omega (arith, grantable _ (c .before .before .before .pre .6) (no-question-refuses c) .at-most)
+returns c = (answered (c .before), refused-moves (c .before .grant-answer .result) (answered (c .before)) (refusing _ (c .match .keys2)))
 
 allot-requires : tie.Need-allot-requires
-allot-requires c κs = grantable _ (c .before .before .before .before .pre .6) (no-question-refuses (c .before))
+allot-requires c κs =
+    let accepting = c .before .before in
+    grantable _ (entry (accepting .before .before) .pre .2) (asked accepting)
 
 open-quantum-requires : tie.Need-open-quantum-requires
-open-quantum-requires c κs = begun-fits _ (c .before .before .before .before .before .pre .6) (no-question-refuses (c .before .before))
+open-quantum-requires c κs =
+    let accepting = c .before .before .before .before in
+    begun-fits _ (entry (accepting .before .before) .pre .2) (asked accepting) (c .before .allot .ensures)
 
 returns-2 : tie.Need-returns-2
 returns-2 c =
-    rw (c .open-quantum .ensures)
-    (accepted-grant _ (c .before .before .before .before .before .grant-answer .ensures) (c .before .before .before .enum-told .given .1) (c .before .allot .ensures))
+    let accepting = c .before .before .before .before .before in
+    let asking = accepting .before .before in (
+      answered asking,
+      rw (c .open-quantum .ensures) (granted-moves _ (entry asking .pre .2) (asked accepting) (c .before .before .allot .ensures)),
+    )
 
 pub grant-spec : {M : Type 1} → statement M
-grant-spec = tie.close (tie.spec grant-answer-requires enum-told returns cast-workers allot-requires open-quantum-requires returns-2)
+grant-spec = tie.close (tie.spec (λ c κs. search needs) (λ c. search needs) returns allot-requires open-quantum-requires returns-2)

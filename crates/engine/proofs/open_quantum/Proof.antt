@@ -1,19 +1,35 @@
 -- `engine::open_quantum` meets its contract: a count above 0 starts the job, and a grant of 0 leaves it as it was.
+-- The needs that are only searched for are places below 18.
 -- Assumes nothing.
-use mathlib.Core.Path.{refl}
+use mathlib.Core.Path.{_≡_, refl, _∙_}
+use mathlib.Core.List.{List}
+use Prim.Native.Nat.{ℕ}
 use borrow.Author.Needs.{needs}
 use borrow.Author.Tests.{eq-eqb, ne-eqb}
+use native.Mathlib.Omega.{arith}
+use denote.Ref.{now}
+use lib.ListN.{set}
+use lib.Seq.{getD-set-other}
+use Rattle.memory.specs.Words.{word}
 use Rattle.engine.proofs.open_quantum.Statement.{statement}
 use Rattle.engine.proofs.open_quantum.Tie as tie
 
-add-r : tie.Need-add-r
-add-r c = search needs
+-- the count of quanta is not one of the words that are written before it
+begun-still : (words : List ℕ) → word (set (set words 15 1) 16 0) 17 ≡ word words 17
+begun-still words =
+    getD-set-other (set words 15 1) 16 17 0 0 (λ e. omega arith) ∙ getD-set-other words 15 17 1 0 (λ e. omega arith)
+
+add-words : tie.Need-add-words
+add-words c = omega (arith, begun-still (now (c .before .args .words)))
 
 returns : tie.Need-returns
-returns c = rw (eq-eqb _ 0 (c .if1 .taken)) refl
+returns c = rw (eq-eqb (c .before .before .args .g) 0 (omega arith), begun-still (now (c .before .before .args .words))) refl
 
 returns-2 : tie.Need-returns-2
-returns-2 c = rw (ne-eqb _ 0 (c .if1 .left)) refl
+returns-2 c = rw (ne-eqb _ 0 (c .if1 .left), begun-still (now (c .before .before .args .words))) refl
 
 pub open-quantum-spec : {M : Type 1} → statement M
-open-quantum-spec = tie.close (tie.spec add-r returns returns-2)
+open-quantum-spec =
+    tie.close
+    (tie.spec (λ c. search needs) (λ c. search needs) (λ c. search needs) add-words (λ c. search needs) returns (λ c. search needs)
+    returns-2)

@@ -8,18 +8,6 @@ use Rattle.exports.proofs.Showing.{wording-shown}
 use Rattle.exports.proofs.jirvaldo_core_wording.Statement.{statement}
 use Rattle.exports.proofs.jirvaldo_core_wording.Tie as tie
 
-status-in-requires : tie.Need-status-in-requires
-status-in-requires c κs = search needs
-
-find-requires : tie.Need-find-requires
-find-requires c κs = search needs
-
-enum-known-found : tie.Need-enum-known-found
-enum-known-found c = search needs
-
-enum-told : tie.Need-enum-told
-enum-told c = search needs
-
 returns : tie.Need-returns
 returns c =
     let looked = c .before .before in
@@ -37,4 +25,4 @@ returns-2 c =
 pub jirvaldo-core-wording-spec : {M : Type 1} → statement M
 jirvaldo-core-wording-spec =
     tie.close
-    (tie.spec status-in-requires find-requires enum-known-found enum-told returns returns-2)
+    (tie.spec (λ c κs. search needs) (λ c κs. search needs) (λ c. search needs) (λ c. search needs) returns returns-2)

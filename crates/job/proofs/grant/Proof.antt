@@ -1,18 +1,13 @@
--- `job::grant` meets its contract: what the in-place core promises, said of the record.
+-- `job::grant` meets its contract: what the in-place core promises of the record's memory and words.
 -- Assumes nothing.
-use borrow.Author.Needs.{needs}
-use Rattle.job.proofs.Calls.{grant-called}
 use Rattle.job.proofs.grant.Statement.{statement}
 use Rattle.job.proofs.grant.Tie as tie
-use Rattle.job.proofs.grant.Reads as reads
-use Rattle.job.proofs.grant.Lts as lts
-use Rattle.engine.proofs.grant.Reads as grant-reads
 
 grant-requires : tie.Need-grant-requires
-grant-requires c κs = search needs
+grant-requires c κs = c .before .before .before .before .pre
 
 returns : tie.Need-returns
-returns c = grant-called _ _ (c .before .before .before .before .before .before .before .before .before .pre) (c .before .before .before .before .before .before .grant .ensures)
+returns c = c .grant .ensures
 
 pub grant-spec : {M : Type 1} → statement M
 grant-spec = tie.close (tie.spec grant-requires returns)

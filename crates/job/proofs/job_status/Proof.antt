@@ -1,16 +1,13 @@
--- `job::job_status` meets its contract: the status of the numbers, at the record's own arrays.
+-- `job::job_status` meets its contract: the status of the words, at the record's own memory.
 -- Assumes nothing.
-use Rattle.job.proofs.Accepts.{job-numbers}
 use Rattle.job.proofs.job_status.Statement.{statement}
 use Rattle.job.proofs.job_status.Tie as tie
 
 status-of-requires : tie.Need-status-of-requires
-status-of-requires c κs = job-numbers (c .pre)
+status-of-requires c κs = (_, c .before .before .pre)
 
 returns : tie.Need-returns
-returns c =
-    let from = c .before .pre in
-    c .status-of .ensures .right (from .0) (from .1) _ _ _ _ _ (from .2)
+returns c = c .status-of .ensures .right _ (c .before .before .before .pre)
 
 pub job-status-spec : {M : Type 1} → statement M
 job-status-spec = tie.close (tie.spec status-of-requires returns)

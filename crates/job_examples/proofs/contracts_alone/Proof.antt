@@ -4,9 +4,15 @@ use borrow.Author.Needs.{needs}
 use borrow.Author.Tests.{eq-eqb}
 use mathlib.Core.Path.{ap, _∙_}
 use Rattle.model.specs.Questions.{answer-number}
-use Rattle.job_examples.proofs.Calls.{onward, plan-a-passes, plan-a-from, refused-14, still-fresh}
+use Rattle.model.specs.Examples.{plan-a-begins}
+use Rattle.plan.specs.Answers.{passes}
+use Rattle.job_examples.proofs.Calls.{onward, begun, refused-14, still-fresh}
 use Rattle.job_examples.proofs.contracts_alone.Statement.{statement}
 use Rattle.job_examples.proofs.contracts_alone.Tie as tie
+
+-- Plan A is accepted, and its record is a job; a first grant of 2 leaves it
+abbrev accepted-a : tie.After-grant → tie.After-accept
+accepted-a c = c .before .before .before .before
 
 slice-aggregate-accept : tie.Need-slice-aggregate-accept
 slice-aggregate-accept c = search needs
@@ -18,25 +24,35 @@ passed-requires : tie.Need-passed-requires
 passed-requires c κs = search needs
 
 expect-requires : tie.Need-expect-requires
-expect-requires c κs = c .passed .ensures ∙ plan-a-passes (c .before .accept .ensures)
+expect-requires c κs = c .passed .ensures ∙ ap passes (c .before .accept .ensures .0 ∙ plan-a-begins .0)
 
 grant-requires : tie.Need-grant-requires
-grant-requires c κs = plan-a-from (c .before .before .before .accept .ensures)
+grant-requires c κs = begun (c .before .before .before .accept .ensures .1) (plan-a-begins .0)
 
 number-requires : tie.Need-number-requires
 number-requires c κs = search needs
 
 expect-requires-2 : tie.Need-expect-requires-2
-expect-requires-2 c κs = eq-eqb (c .number .result) 14 (c .number .ensures ∙ ap answer-number (refused-14 (c .before .before .before .before .before .accept .ensures) (c .before .grant .ensures)))
+expect-requires-2 c κs =
+    let granted = c .before in
+    eq-eqb (c .number .result) 14
+    (c .number .ensures ∙ ap answer-number (granted .grant .ensures .0 ∙ refused-14 (accepted-a granted .accept .ensures .1)))
 
 job-status-requires : tie.Need-job-status-requires
-job-status-requires c κs = onward (plan-a-from (c .before .before .before .before .before .before .before .accept .ensures)) (c .before .before .before .grant .ensures)
+job-status-requires c κs =
+    let granted = c .before .before .before in
+    onward (begun (accepted-a granted .accept .ensures .1) (plan-a-begins .0)) (granted .grant .ensures .1)
 
 number-of-requires : tie.Need-number-of-requires
 number-of-requires c κs = search needs
 
 expect-requires-3 : tie.Need-expect-requires-3
-expect-requires-3 c κs = eq-eqb (c .number-of .result) 0 (c .number-of .ensures ∙ c .before .job-status .ensures ∙ still-fresh (c .before .before .before .before .before .before .before .before .before .accept .ensures) (c .before .before .before .before .before .grant .ensures))
+expect-requires-3 c κs =
+    let granted = c .before .before .before .before .before in
+    eq-eqb (c .number-of .result) 0
+    (c .number-of .ensures
+    ∙ c .before .job-status .ensures
+    ∙ still-fresh (accepted-a granted .accept .ensures .1) (granted .grant .ensures .1))
 
 returns : tie.Need-returns
 returns c = search needs

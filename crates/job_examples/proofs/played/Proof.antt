@@ -1,45 +1,55 @@
--- `job_examples::played` meets its contract: every call keeps that the record comes from calls. The measure is what is left of the log.
+-- `job_examples::played` meets its contract: every call keeps that the record is a job. The measure is what is left of the log.
 -- Assumes nothing.
 use borrow.Author.Needs.{needs}
 use native.Mathlib.Omega.{arith}
 use mathlib.Core.Path.{sym, _∙_}
 use mathlib.Core.List.{List}
-use Prim.Native.Nat.{ℕ, _-_}
+use Prim.Native.Nat.{ℕ, _-_, _^_, _<_}
 use denote.Ref.{now}
 use lib.ListN.{length}
-use Rattle.job.specs.View.{FromCalls}
+use Rattle.engine.specs.Reached.{IsJob}
 use Rattle.log.specs.declared.Entry.the-variants.{Grant, Tick}
-use Rattle.log.proofs.Entries.{ReadAt, read-at, grant-inside, tick-inside}
+use Rattle.log.proofs.Entries.{ReadAt, grant-inside, tick-inside}
 use Rattle.job_examples.proofs.Calls.{onward}
 use Rattle.job_examples.proofs.played.Statement.{statement}
 use Rattle.job_examples.proofs.played.Tie as tie
-use Rattle.job_examples.proofs.played.Reads as reads
-use Rattle.job_examples.proofs.played.Lts as lts
 
 abbrev Inv-loop : tie.InvT-loop
-Inv-loop log now-job₀ at₀ now-job at = FromCalls now-job
+Inv-loop log now-job₀ at₀ now-job at = IsJob now-job
 
 abbrev μ-loop : tie.MeasureT-loop
 μ-loop log now-job₀ at₀ now-job at = length log - at
 
--- ---- an entry that was read, and the place past it
+-- ---- what is known once an entry is read
 
 abbrev Read : Type 0
 Read = tie.After-read-entry Inv-loop μ-loop
 
+abbrev entry : Read → tie.Start Inv-loop μ-loop
+entry c = c .before .before .before .before
+
 abbrev log-of : Read → List ℕ
-log-of c = now (c .before .before .before .before .args .log)
+log-of c = now (entry c .args .log)
 
 abbrev at-of : Read → ℕ
 at-of c = c .before .loop .at
 
-grant-read : (c : tie.After-next-place Inv-loop μ-loop) →
-    ReadAt (log-of (c .before .before .before .before .before .before)) (at-of (c .before .before .before .before .before .before)) (Grant (c .before .before .before .before .g .given .0 .0)) (c .next-place .result)
-grant-read c = read-at (sym (c .before .before .before .before .before .before .read-entry .ensures) ∙ c .before .before .before .before .g .given .1) (c .next-place .ensures)
+log-fits : (c : Read) → length (log-of c) < 2 ^ 63
+log-fits c = omega (arith, entry c .good .1 .0 .1)
 
-tick-read : (c : tie.After-next-place2 Inv-loop μ-loop) →
-    ReadAt (log-of (c .before .before .before .before)) (at-of (c .before .before .before .before)) (Tick (c .before .before .start .given .0 .0) (c .before .before .start .given .0 .1 .0)) (c .next-place2 .result)
-tick-read c = read-at (sym (c .before .before .before .before .read-entry .ensures) ∙ c .before .before .start .given .1) (c .next-place2 .ensures)
+-- the record is a job
+job-now : (c : Read) → IsJob (c .before .loop .now-job)
+job-now c = c .before .loop .inv
+
+grant-read : (c : tie.After-g Inv-loop μ-loop) →
+    let read = c .before .before in
+    ReadAt (log-of read) (at-of read) (Grant (c .g .given .0 .0))
+grant-read c = record { is = sym (c .before .before .read-entry .ensures) ∙ c .g .given .1 }
+
+tick-read : (c : tie.After-start Inv-loop μ-loop) →
+    let read = c .before .before in
+    ReadAt (log-of read) (at-of read) (Tick (c .start .given .0 .0) (c .start .given .0 .1 .0))
+tick-read c = record { is = sym (c .before .before .read-entry .ensures) ∙ c .start .given .1 }
 
 -- ---- the needs
 
@@ -52,6 +62,11 @@ loop-holds c = search needs
 read-entry-requires : tie.Need-read-entry-requires Inv-loop μ-loop
 read-entry-requires c κs = search needs
 
+-- ---- a grant
+
+abbrev grant-told : tie.After-now-job Inv-loop μ-loop → tie.After-g Inv-loop μ-loop
+grant-told c = c .before .before .before
+
 enum-known-g : tie.Need-enum-known-g Inv-loop μ-loop
 enum-known-g c = search needs
 
@@ -59,52 +74,59 @@ cast-grant : tie.Need-cast-grant Inv-loop μ-loop
 cast-grant c = omega arith
 
 grant-requires : tie.Need-grant-requires Inv-loop μ-loop
-grant-requires c κs = search needs
+grant-requires c κs = job-now (c .before .before .before)
 
-next-place-requires : tie.Need-next-place-requires Inv-loop μ-loop
-next-place-requires c κs = search needs
+add-at : tie.Need-add-at Inv-loop μ-loop
+add-at c = omega (arith, grant-inside (grant-read (grant-told c)), log-fits (grant-told c .before .before))
 
 loop-less : tie.Need-loop-less Inv-loop μ-loop
-loop-less c = omega (arith, grant-inside (grant-read c))
+loop-less c = omega (arith, grant-inside (grant-read (grant-told c)))
 
 loop-again : tie.Need-loop-again Inv-loop μ-loop
-loop-again c = onward (c .before .before .before .before .before .before .before .loop .inv) (c .before .before .grant .ensures)
+loop-again c = onward (job-now (grant-told c .before .before)) (c .before .grant .ensures .1)
+
+-- ---- a tick
+
+abbrev tick-told : tie.After-now-job2 Inv-loop μ-loop → tie.After-start Inv-loop μ-loop
+tick-told c = c .before .before .before .before
 
 enum-known-start : tie.Need-enum-known-start Inv-loop μ-loop
 enum-known-start c = search needs
 
-next-place-requires-2 : tie.Need-next-place-requires-2 Inv-loop μ-loop
-next-place-requires-2 c κs = search needs
+add-past : tie.Need-add-past Inv-loop μ-loop
+add-past c = omega (arith, tick-inside (tick-read (c .before)), log-fits (c .before .before .before))
 
 sub-tick : tie.Need-sub-tick Inv-loop μ-loop
-sub-tick c = omega (arith, tick-inside (tick-read c))
+sub-tick c = omega arith
 
 part-tick-start : tie.Need-part-tick-start Inv-loop μ-loop
-part-tick-start c = omega (arith, tick-inside (tick-read c))
+part-tick-start c = omega (arith, tick-inside (tick-read (c .before)))
 
 part-tick-end : tie.Need-part-tick-end Inv-loop μ-loop
-part-tick-end c = tick-inside (tick-read c) .2
+part-tick-end c = tick-inside (tick-read (c .before)) .1
 
 tick-requires : tie.Need-tick-requires Inv-loop μ-loop
-tick-requires c κs = search needs
+tick-requires c κs = let told = c .before .before in job-now (told .before .before)
 
 loop-less-2 : tie.Need-loop-less-2 Inv-loop μ-loop
-loop-less-2 c = omega (arith, tick-inside (tick-read (c .before .before .before)))
+loop-less-2 c = omega (arith, tick-inside (tick-read (tick-told c)))
 
 loop-again-2 : tie.Need-loop-again-2 Inv-loop μ-loop
-loop-again-2 c = onward (c .before .before .before .before .before .before .before .before .loop .inv) (c .before .tick .ensures)
+loop-again-2 c = onward (job-now (tick-told c .before .before)) (c .before .tick .ensures .1)
+
+-- ---- the log's end
 
 enum-told : tie.Need-enum-told Inv-loop μ-loop
 enum-told c = search needs
 
 returns : tie.Need-returns Inv-loop μ-loop
-returns c = search needs
+returns c = job-now (c .before .before)
 
 enum-told-2 : tie.Need-enum-told-2 Inv-loop μ-loop
 enum-told-2 c = search needs
 
 returns-2 : tie.Need-returns-2 Inv-loop μ-loop
-returns-2 c = search needs
+returns-2 c = job-now (c .before .before)
 
 pub played-spec : {M : Type 1} → statement M
 played-spec =
@@ -118,11 +140,11 @@ played-spec =
     enum-known-g
     cast-grant
     grant-requires
-    next-place-requires
+    add-at
     loop-less
     loop-again
     enum-known-start
-    next-place-requires-2
+    add-past
     sub-tick
     part-tick-start
     part-tick-end

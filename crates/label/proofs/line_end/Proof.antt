@@ -48,8 +48,9 @@ shared-slice-read-if3 c = omega arith
 
 returns-3 : tie.Need-returns-3 Inv-loop μ-loop
 returns-3 c =
-    let s = c .before .before .before .before .before .before .before .loop .inv in
-    let two = passed-two s (omega arith) (c .before .before .before .before .if1 .left) (c .before .before .if2 .left) in
+    let first = c .before .before .before .before in
+    let s = first .before .before .before .loop .inv in
+    let two = passed-two s (omega arith) (first .if1 .left) (c .before .before .if2 .left) in
     end-here two (c .if3 .taken)
 
 add-fourth : tie.Need-add-fourth Inv-loop μ-loop
@@ -60,9 +61,10 @@ shared-slice-read-if4 c = omega arith
 
 returns-4 : tie.Need-returns-4 Inv-loop μ-loop
 returns-4 c =
-    let s = c .before .before .before .before .before .before .before .before .before .loop .inv in
-    let first = c .before .before .before .before .before .before .if1 .left in
-    let three = passed-three s (omega arith) first (c .before .before .before .before .if2 .left) (c .before .before .if3 .left) in
+    let second = c .before .before .before .before in
+    let first = second .before .before in
+    let s = first .before .before .before .loop .inv in
+    let three = passed-three s (omega arith) (first .if1 .left) (second .if2 .left) (c .before .before .if3 .left) in
     end-here three (c .if4 .taken)
 
 add-i : tie.Need-add-i Inv-loop μ-loop
@@ -73,9 +75,10 @@ loop-less c = omega arith
 
 loop-again : tie.Need-loop-again Inv-loop μ-loop
 loop-again c =
-    let s = c .before .before .before .before .before .before .before .before .before .loop .inv in
-    let first = c .before .before .before .before .before .before .if1 .left in
-    let three = passed-three s (omega arith) first (c .before .before .before .before .if2 .left) (c .before .before .if3 .left) in
+    let second = c .before .before .before .before in
+    let first = second .before .before in
+    let s = first .before .before .before .loop .inv in
+    let three = passed-three s (omega arith) (first .if1 .left) (second .if2 .left) (c .before .before .if3 .left) in
     passed-more three (omega arith) (c .if4 .left)
 
 end-by-bytes-requires : tie.Need-end-by-bytes-requires Inv-loop μ-loop

@@ -2,20 +2,16 @@
 -- Assumes nothing.
 use borrow.Author.Needs.{needs}
 use native.Mathlib.Omega.{arith}
-use mathlib.Core.Path.{_≡_, refl, sym, ap, subst, _∙_}
+use mathlib.Core.Path.{sym, ap, _∙_}
 use mathlib.Core.List.{List}
 use Prim.Native.Nat.{ℕ, _^_, _<_}
 use denote.Ref.{now}
 use lib.ListN.{length}
-use Rattle.log.specs.declared.Entry.{Entry}
-use Rattle.log.specs.declared.Entry.the-variants.{Grant, Tick, Broken, End}
-use Rattle.log.specs.Reading.{entry-of, past-entry}
-use Rattle.log.proofs.Entries.{read-at, grant-inside, tick-inside}
+use Rattle.log.specs.declared.Entry.the-variants.{Grant, Tick}
+use Rattle.log.specs.Reading.{past-entry}
+use Rattle.log.proofs.Entries.{ReadAt, grant-inside, tick-inside}
 use Rattle.log.proofs.past_at.Statement.{statement}
 use Rattle.log.proofs.past_at.Tie as tie
-use Rattle.log.proofs.past_at.Reads as reads
-use Rattle.log.proofs.past_at.Lts as lts
-use Rattle.log.proofs.entry_at.Reads as entry-at-reads
 
 -- ---- the entry that was read
 
@@ -39,21 +35,22 @@ entry-at-requires c κs = search needs
 enum-told : tie.Need-enum-told
 enum-told c = search needs
 
-grant-found : (c : tie.After-enum-told) → entry-of (log-of (c .before .before)) (at-of (c .before .before)) ≡ Grant (c .enum-told .given .0 .0)
-grant-found c = sym (c .before .before .entry-at .ensures) ∙ c .enum-told .given .1
+grant-found : (c : tie.After-enum-told) →
+    ReadAt (log-of (c .before .before)) (at-of (c .before .before)) (Grant (c .enum-told .given .0 .0))
+grant-found c = record { is = sym (c .before .before .entry-at .ensures) ∙ c .enum-told .given .1 }
 
 add-result : tie.Need-add-result
-add-result c = omega (arith, grant-inside (read-at (grant-found c) refl), log-fits (c .before .before))
+add-result c = omega (arith, grant-inside (grant-found c), log-fits (c .before .before))
 
 enum-known-start : tie.Need-enum-known-start
 enum-known-start c = search needs
 
 tick-found : (c : tie.After-start) →
-    entry-of (log-of (c .before .before)) (at-of (c .before .before)) ≡ Tick (c .start .given .0 .0) (c .start .given .0 .1 .0)
-tick-found c = sym (c .before .before .entry-at .ensures) ∙ c .start .given .1
+    ReadAt (log-of (c .before .before)) (at-of (c .before .before)) (Tick (c .start .given .0 .0) (c .start .given .0 .1 .0))
+tick-found c = record { is = sym (c .before .before .entry-at .ensures) ∙ c .start .given .1 }
 
 add-result-2 : tie.Need-add-result-2
-add-result-2 c = omega (arith, tick-inside (read-at (tick-found (c .before)) refl), log-fits (c .before .before .before))
+add-result-2 c = omega (arith, tick-inside (tick-found (c .before)), log-fits (c .before .before .before))
 
 enum-told-2 : tie.Need-enum-told-2
 enum-told-2 c = search needs
@@ -62,10 +59,10 @@ enum-told-3 : tie.Need-enum-told-3
 enum-told-3 c = search needs
 
 returns : tie.Need-returns
-returns c = ap (past-entry (at-of (c .before .before))) (sym (grant-found c))
+returns c = ap (past-entry (at-of (c .before .before))) (sym (grant-found c .is))
 
 returns-2 : tie.Need-returns-2
-returns-2 c = ap (past-entry (at-of (c .before .before .before))) (sym (tick-found (c .before)))
+returns-2 c = ap (past-entry (at-of (c .before .before .before))) (sym (tick-found (c .before) .is))
 
 returns-3 : tie.Need-returns-3
 returns-3 c = ap (past-entry (at-of (c .before .before))) (sym (sym (c .before .before .entry-at .ensures) ∙ c .enum-told2 .given .1))

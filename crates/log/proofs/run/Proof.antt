@@ -8,21 +8,24 @@ use mathlib.Core.List.{List}
 use Prim.Native.Nat.{ℕ, _-_, _^_, _<_}
 use denote.Ref.{now}
 use lib.ListN.{length}
-use Rattle.log.specs.declared.Entry.{Entry}
+use Rattle.model.specs.Log.{refusals-in}
+use Rattle.memory.specs.declared.Job.{Job}
+use Rattle.memory.specs.Jobs.{lent}
+use Rattle.engine.specs.Reached.{IsJob}
+use Rattle.engine.specs.Answers.{answer-of}
 use Rattle.log.specs.declared.Entry.the-variants.{Grant, Tick, Broken, End}
 use Rattle.log.specs.declared.LogAnswer.the-variants.{Whole, BrokenEntry}
-use Rattle.log.specs.declared.Place.{Place}
-use Rattle.log.proofs.Entries.{ReadAt, read-at, grant-inside, tick-inside, entries-read, choices-read}
-use Rattle.log.proofs.Running.{SoFar, starts, reached-now, granted, one-more, ends-here}
+use Rattle.log.proofs.Entries.{ReadAt, grant-inside, tick-inside, entries-read, choices-read}
+use Rattle.log.proofs.Running.{SoFar, starts, still-job, few-more, one-more, ends-here}
 use Rattle.log.proofs.run.Statement.{statement}
 use Rattle.log.proofs.run.Tie as tie
 
 abbrev Inv-loop : tie.InvT-loop
-Inv-loop first second pending₀ next₀ ends₀ log place₀ pending next ends place =
-    SoFar log first second pending₀ next₀ ends₀ (place₀ .numbers) (place₀ .course) pending next ends place
+Inv-loop memory₀ words₀ log refusals₀ count₀ at₀ memory words refusals count at =
+    SoFar log (lent memory₀ words₀) (lent memory words) count at
 
 abbrev μ-loop : tie.MeasureT-loop
-μ-loop first second pending₀ next₀ ends₀ log place₀ pending next ends place = length log - place .at
+μ-loop memory₀ words₀ log refusals₀ count₀ at₀ memory words refusals count at = length log - at
 
 -- ---- what is known once an entry is read
 
@@ -30,34 +33,28 @@ abbrev Read : Type 0
 Read = tie.After-read-entry Inv-loop μ-loop
 
 abbrev entry : Read → tie.Start Inv-loop μ-loop
-entry c = c .before .before .before .before .before .before
-
-abbrev head : Read → tie.At-loop Inv-loop μ-loop
-head c = c .before .before .before
+entry c = c .before .before .before .before
 
 abbrev log-of : Read → List ℕ
 log-of c = now (entry c .args .log)
 
-abbrev place-of : Read → Place
-place-of c = head c .loop .place
+abbrev at-of : Read → ℕ
+at-of c = c .before .loop .at
 
 log-fits : (c : Read) → length (log-of c) < 2 ^ 63
-log-fits c = omega (arith, entry c .good .1 .1 .1 .1 .1 .1 .1 .0 .1)
+log-fits c = omega (arith, entry c .good .1 .1 .0 .1)
 
--- the same, once the place past it is known too
-grant-read : (c : tie.After-next-place Inv-loop μ-loop) →
-    let read = c .before .before .before .before .before .before in
-    ReadAt (log-of read) (place-of read .at) (Grant (c .before .before .before .before .g .given .0 .0)) (c .next-place .result)
-grant-read c =
-    let read = c .before .before .before .before .before .before in
-    read-at (sym (read .read-entry .ensures) ∙ c .before .before .before .before .g .given .1) (c .next-place .ensures)
+abbrev job-of : Read → Job
+job-of c = lent (c .before .loop .memory) (c .before .loop .words)
 
-tick-read : (c : tie.After-next-place2 Inv-loop μ-loop) →
-    let read = c .before .before .before .before in
-    let found = c .before .before .start .given in
-    ReadAt (log-of read) (place-of read .at) (Tick (found .0 .0) (found .0 .1 .0)) (c .next-place2 .result)
-tick-read c =
-    read-at (sym (c .before .before .before .before .read-entry .ensures) ∙ c .before .before .start .given .1) (c .next-place2 .ensures)
+-- the entries before the place are run
+inv-of : (c : Read) →
+    SoFar (log-of c) (lent (now (entry c .args .memory)) (now (entry c .args .words))) (job-of c) (c .before .loop .count) (at-of c)
+inv-of c = c .before .loop .inv
+
+-- the job is one still
+job-now : (c : Read) → IsJob (job-of c)
+job-now c = still-job _ _ (inv-of c) (entry c .pre)
 
 -- ---- the needs
 
@@ -65,12 +62,20 @@ first-place-requires : tie.Need-first-place-requires Inv-loop μ-loop
 first-place-requires c κs = search needs
 
 loop-holds : tie.Need-loop-holds Inv-loop μ-loop
-loop-holds c = rw (c .first-place .ensures) (starts _ _ _ _ _ _ _ _)
+loop-holds c = rw (c .first-place .ensures) (starts _ _)
 
 read-entry-requires : tie.Need-read-entry-requires Inv-loop μ-loop
 read-entry-requires c κs = search needs
 
 -- ---- a grant
+
+abbrev grant-told : tie.After-refused Inv-loop μ-loop → tie.After-g Inv-loop μ-loop
+grant-told c = c .before .before .before .before .before
+
+grant-read : (c : tie.After-g Inv-loop μ-loop) →
+    let read = c .before .before in
+    ReadAt (log-of read) (at-of read) (Grant (c .g .given .0 .0))
+grant-read c = record { is = sym (c .before .before .read-entry .ensures) ∙ c .g .given .1 }
 
 enum-known-g : tie.Need-enum-known-g Inv-loop μ-loop
 enum-known-g c = search needs
@@ -79,110 +84,98 @@ cast-grant : tie.Need-cast-grant Inv-loop μ-loop
 cast-grant c = omega arith
 
 grant-requires : tie.Need-grant-requires Inv-loop μ-loop
-grant-requires c κs =
-    let read = c .before .before .before .before in
-    let pre = entry read .pre in
-    (_, _, _, _, _, _, reached-now _ _ _ _ _ _ _ _ (pre .0) (pre .1) (pre .2) (head read .loop .inv))
+grant-requires c κs = job-now (c .before .before .before .before .before)
 
-next-place-requires : tie.Need-next-place-requires Inv-loop μ-loop
-next-place-requires c κs = search needs
+refused-requires : tie.Need-refused-requires Inv-loop μ-loop
+refused-requires c κs = search needs
 
-counted-requires : tie.Need-counted-requires Inv-loop μ-loop
-counted-requires c κs =
-    let read = c .before .before .before .before .before .before in
-    omega (arith, grant-inside (grant-read c), log-fits read, head read .loop .inv .few)
+add-count : tie.Need-add-count Inv-loop μ-loop
+add-count c =
+    let read = grant-told c .before .before in
+    let few = few-more _ _ (inv-of read) (answer-of (c .before .grant .result)) (c .refused .ensures) in
+    omega (arith, few, grant-inside (grant-read (grant-told c)), log-fits read)
+
+add-at : tie.Need-add-at Inv-loop μ-loop
+add-at c = omega (arith, grant-inside (grant-read (grant-told c)), log-fits (grant-told c .before .before))
 
 loop-less : tie.Need-loop-less Inv-loop μ-loop
-loop-less c = omega (arith, grant-inside (grant-read (c .before)), ap (λ (p : Place). p .at) (c .counted .ensures))
+loop-less c = omega (arith, grant-inside (grant-read (grant-told c)))
 
 loop-again : tie.Need-loop-again Inv-loop μ-loop
 loop-again c =
-    let read = c .before .before .before .before .before .before .before in
-    let pre = entry read .pre in
-    let so-far = head read .loop .inv in
-    let is = grant-read (c .before) in
-    one-more _ _ _ _ _ _ _ _ (pre .0) (pre .1) (pre .2) so-far _ _
-    (granted _ _ _ _ _ _ _ _ (pre .0) (pre .1) (pre .2) so-far (c .before .before .grant .ensures))
-    (λ n refused. c .before .before .grant .ensures .refusal n refused _ _)
-    (c .counted .ensures)
-    (entries-read is)
-    (omega (arith, grant-inside is))
-    (grant-inside is .1)
+    one-more _ _ (inv-of (grant-told c .before .before)) _ (c .before .grant .ensures .1)
+    (c .refused .ensures ∙ ap refusals-in (c .before .grant .ensures .0))
+    (entries-read (grant-read (grant-told c)))
+    (omega arith)
 
 -- ---- a tick
+
+abbrev tick-told : tie.After-tick Inv-loop μ-loop → tie.After-start Inv-loop μ-loop
+tick-told c = c .before .before .before .before .before
+
+tick-read : (c : tie.After-start Inv-loop μ-loop) →
+    let read = c .before .before in
+    ReadAt (log-of read) (at-of read) (Tick (c .start .given .0 .0) (c .start .given .0 .1 .0))
+tick-read c = record { is = sym (c .before .before .read-entry .ensures) ∙ c .start .given .1 }
 
 enum-known-start : tie.Need-enum-known-start Inv-loop μ-loop
 enum-known-start c = search needs
 
-next-place-requires-2 : tie.Need-next-place-requires-2 Inv-loop μ-loop
-next-place-requires-2 c κs = search needs
+add-past : tie.Need-add-past Inv-loop μ-loop
+add-past c = omega (arith, tick-inside (tick-read (c .before)), log-fits (c .before .before .before))
 
 sub-tick : tie.Need-sub-tick Inv-loop μ-loop
-sub-tick c = omega (arith, tick-inside (tick-read (c .before .before .before)))
+sub-tick c = omega arith
 
 part-tick-start : tie.Need-part-tick-start Inv-loop μ-loop
 part-tick-start c = omega (arith, tick-inside (tick-read (c .before .before .before)))
 
 part-tick-end : tie.Need-part-tick-end Inv-loop μ-loop
-part-tick-end c = tick-inside (tick-read (c .before .before .before)) .2
+part-tick-end c = tick-inside (tick-read (c .before .before .before)) .1
 
 tick-requires : tie.Need-tick-requires Inv-loop μ-loop
-tick-requires c κs =
-    let read = c .before .before .before .before .before .before .before .before in
-    let pre = entry read .pre in
-    (_, _, reached-now _ _ _ _ _ _ _ _ (pre .0) (pre .1) (pre .2) (head read .loop .inv))
+tick-requires c κs = let told = c .before .before .before .before in job-now (told .before .before)
 
-counted-requires-2 : tie.Need-counted-requires-2 Inv-loop μ-loop
-counted-requires-2 c κs =
-    let read = c .before .before .before .before .before .before .before .before .before in
-    omega (arith, tick-inside (tick-read (c .before .before .before .before .before)), log-fits read, head read .loop .inv .few)
+refused-requires-2 : tie.Need-refused-requires-2 Inv-loop μ-loop
+refused-requires-2 c κs = search needs
+
+add-count-2 : tie.Need-add-count-2 Inv-loop μ-loop
+add-count-2 c =
+    let read = tick-told (c .before) .before .before in
+    let few = few-more _ _ (inv-of read) (answer-of (c .before .tick .result)) (c .refused2 .ensures) in
+    omega (arith, few, tick-inside (tick-read (tick-told (c .before))), log-fits read)
 
 loop-less-2 : tie.Need-loop-less-2 Inv-loop μ-loop
-loop-less-2 c =
-    let is = tick-read (c .before .before .before .before .before .before) in
-    omega (arith, tick-inside is, ap (λ (p : Place). p .at) (c .counted2 .ensures))
+loop-less-2 c = omega (arith, tick-inside (tick-read (tick-told (c .before))))
 
 loop-again-2 : tie.Need-loop-again-2 Inv-loop μ-loop
 loop-again-2 c =
-    let read = c .before .before .before .before .before .before .before .before .before .before in
-    let pre = entry read .pre in
-    let is = tick-read (c .before .before .before .before .before .before) in
-    one-more _ _ _ _ _ _ _ _ (pre .0) (pre .1) (pre .2) (head read .loop .inv) _ _
-    (c .before .tick .ensures .moves)
-    (c .before .tick .ensures .refusal)
-    (c .counted2 .ensures)
+    let is = tick-read (tick-told (c .before)) in
+    one-more _ _ (inv-of (tick-told (c .before) .before .before)) _ (c .before .tick .ensures .1)
+    (c .refused2 .ensures ∙ ap refusals-in (c .before .tick .ensures .0))
     (choices-read is)
     (omega (arith, tick-inside is))
-    (tick-inside is .2)
 
 -- ---- the log's end
 
 enum-told : tie.Need-enum-told Inv-loop μ-loop
 enum-told c = search needs
 
-ended-requires : tie.Need-ended-requires Inv-loop μ-loop
-ended-requires c κs = search needs
-
 returns : tie.Need-returns Inv-loop μ-loop
 returns c =
-    let read = c .before .before .before in
-    let pre = entry read .pre in
-    ends-here _ _ _ _ _ _ _ _ (pre .0) (pre .1) (pre .2) (head read .loop .inv) true BrokenEntry (c .ended .ensures)
-    (entries-read {entry = Broken} (read-at (sym (read .read-entry .ensures) ∙ c .before .enum-told .given .1) refl))
+    let read = c .before .before in
+    ends-here _ _ (inv-of read) true BrokenEntry
+    (entries-read {entry = Broken} (record { is = sym (read .read-entry .ensures) ∙ c .enum-told .given .1 }))
     refl
 
 enum-told-2 : tie.Need-enum-told-2 Inv-loop μ-loop
 enum-told-2 c = search needs
 
-ended-requires-2 : tie.Need-ended-requires-2 Inv-loop μ-loop
-ended-requires-2 c κs = search needs
-
 returns-2 : tie.Need-returns-2 Inv-loop μ-loop
 returns-2 c =
-    let read = c .before .before .before in
-    let pre = entry read .pre in
-    ends-here _ _ _ _ _ _ _ _ (pre .0) (pre .1) (pre .2) (head read .loop .inv) false Whole (c .ended2 .ensures)
-    (entries-read {entry = End} (read-at (sym (read .read-entry .ensures) ∙ c .before .enum-told2 .given .1) refl))
+    let read = c .before .before in
+    ends-here _ _ (inv-of read) false Whole
+    (entries-read {entry = End} (record { is = sym (read .read-entry .ensures) ∙ c .enum-told2 .given .1 }))
     refl
 
 pub run-spec : {M : Type 1} → statement M
@@ -197,22 +190,22 @@ run-spec =
     enum-known-g
     cast-grant
     grant-requires
-    next-place-requires
-    counted-requires
+    refused-requires
+    add-count
+    add-at
     loop-less
     loop-again
     enum-known-start
-    next-place-requires-2
+    add-past
     sub-tick
     part-tick-start
     part-tick-end
     tick-requires
-    counted-requires-2
+    refused-requires-2
+    add-count-2
     loop-less-2
     loop-again-2
     enum-told
-    ended-requires
     returns
     enum-told-2
-    ended-requires-2
     returns-2)

@@ -11,41 +11,28 @@ use Rattle.program.proofs.put_line.Tie as tie
 wide : (s : tie.Start) → Wide (s .args .counters)
 wide s = omega (arith, s .good .0)
 
-write-line-requires : tie.Need-write-line-requires
-write-line-requires c κs = search needs
-
-enum-known-size : tie.Need-enum-known-size
-enum-known-size c = search needs
-
-enum-told : tie.Need-enum-told
-enum-told c = search needs
-
-same-length : tie.Need-same-length
-same-length c = search needs
-
 returns : tie.Need-returns
 returns c =
     let s = c .before .before .before .before .before .before .before .before in
     let called = c .before .before .before .before .before .write-line in
-    line-put _ (wide s) _ _ (called .result) _ (s .pre) (called .ensures .1 .0) (called .ensures .1 .1) (ap line-length (c .before .size .given .1))
-
-same-length-2 : tie.Need-same-length-2
-same-length-2 c = search needs
+    line-put _ (wide s) _ _ (called .result) _ (s .pre) (called .ensures .1 .0) (called .ensures .1 .1)
+    (ap line-length (c .before .size .given .1))
 
 returns-2 : tie.Need-returns-2
 returns-2 c =
     let s = c .before .before .before .before .before .before .before in
     let called = c .before .before .before .before .write-line in
-    line-put _ (wide s) _ _ (called .result) _ (s .pre) (called .ensures .1 .0) (called .ensures .1 .1) (ap line-length (c .enum-told .given .1))
+    line-put _ (wide s) _ _ (called .result) _ (s .pre) (called .ensures .1 .0) (called .ensures .1 .1)
+    (ap line-length (c .enum-told .given .1))
 
 pub put-line-spec : {M : Type 1} → statement M
 put-line-spec =
     tie.close
     (tie.spec
-    write-line-requires
-    enum-known-size
-    enum-told
-    same-length
+    (λ c κs. search needs)
+    (λ c. search needs)
+    (λ c. search needs)
+    (λ c. search needs)
     returns
-    same-length-2
+    (λ c. search needs)
     returns-2)

@@ -14,10 +14,8 @@ put-there : (c : tie.After-slice-known3) →
     (c .before .before .put-decimal .result)
 put-there c =
     let decimal-put = c .before .before .put-decimal .ensures in
-    refusal-put _ _ _ (start c .pre) _ _ _ (c .before .before .before .before .before .before .put-bytes .ensures) (decimal-put .0) (decimal-put .1)
-
-slice-aggregate-put-bytes : tie.Need-slice-aggregate-put-bytes
-slice-aggregate-put-bytes c = search needs
+    refusal-put _ _ _ (start c .pre) _ _ _ (c .before .before .before .before .before .before .put-bytes .ensures)
+    (decimal-put .0) (decimal-put .1)
 
 put-bytes-requires : tie.Need-put-bytes-requires
 put-bytes-requires c κs =
@@ -28,9 +26,6 @@ add-put-decimal : tie.Need-add-put-decimal
 add-put-decimal c =
     let s = c .before .before .before .before .before .before .before in
     omega (arith, word-room (s .args .at) (s .args .number) (s .args .out .now) (s .pre), s .good .0)
-
-put-decimal-requires : tie.Need-put-decimal-requires
-put-decimal-requires c κs = search needs
 
 slice-write-out : tie.Need-slice-write-out
 slice-write-out c = put-there c .inside
@@ -48,10 +43,10 @@ pub put-refusal-spec : {M : Type 1} → statement M
 put-refusal-spec =
     tie.close
     (tie.spec
-    slice-aggregate-put-bytes
+    (λ c. search needs)
     put-bytes-requires
     add-put-decimal
-    put-decimal-requires
+    (λ c κs. search needs)
     slice-write-out
     add-result
     same-length

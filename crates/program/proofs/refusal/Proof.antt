@@ -5,9 +5,6 @@ use Rattle.program.proofs.Printing.{refused-short, prints-one}
 use Rattle.program.proofs.refusal.Statement.{statement}
 use Rattle.program.proofs.refusal.Tie as tie
 
-slice-aggregate-put-refusal : tie.Need-slice-aggregate-put-refusal
-slice-aggregate-put-refusal c = search needs
-
 put-refusal-requires : tie.Need-put-refusal-requires
 put-refusal-requires c κs = omega (arith, refused-short (c .before .args .number) (omega (arith, c .before .fits)))
 
@@ -19,4 +16,4 @@ returns c =
     (omega (arith, refused-short (s .args .number) (omega (arith, s .fits))))
 
 pub refusal-spec : {M : Type 1} → statement M
-refusal-spec = tie.close (tie.spec slice-aggregate-put-refusal put-refusal-requires returns)
+refusal-spec = tie.close (tie.spec (λ c. search needs) put-refusal-requires returns)

@@ -3,27 +3,20 @@
 use borrow.Author.Needs.{needs}
 use mathlib.Core.Path.{_∙_}
 use Rattle.counters.proofs.Line.{model-buffer}
-use Rattle.job.proofs.Accepts.{job-numbers}
-use Rattle.report.proofs.Counted.{of-record, same-size}
+use Rattle.report.proofs.Counted.{same-size}
 use Rattle.report.proofs.job_line.Statement.{statement}
 use Rattle.report.proofs.job_line.Tie as tie
 
 counters-of-requires : tie.Need-counters-of-requires
-counters-of-requires c κs = job-numbers (c .before .pre)
-
-write-line-requires : tie.Need-write-line-requires
-write-line-requires c κs = search needs
-
-same-length : tie.Need-same-length
-same-length c = search needs
+counters-of-requires c κs = (_, c .before .before .before .pre)
 
 returns : tie.Need-returns
 returns c =
-    let written = c .before .before .write-line .ensures in
-    let counted = c .before .before .before .before .counters-of .ensures in
-    let from = c .before .before .before .before .before .before .pre in
-    let same = of-record _ _ _ from counted in
+    let wrote = c .before .before in
+    let counted = wrote .before .before in
+    let same = counted .counters-of .ensures .right _ (counted .before .before .before .before .pre) in
+    let written = wrote .write-line .ensures in
     (written .0, (written .1 .0 ∙ same-size _ _ _ _ _ same, written .1 .1 ∙ model-buffer _ _ _ _ _ same))
 
 pub job-line-spec : {M : Type 1} → statement M
-job-line-spec = tie.close (tie.spec counters-of-requires write-line-requires same-length returns)
+job-line-spec = tie.close (tie.spec counters-of-requires (λ c κs. search needs) (λ c. search needs) returns)

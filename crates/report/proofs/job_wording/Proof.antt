@@ -1,17 +1,8 @@
 -- `report::job_wording` meets its contract: the label of the record's own status. Assumes nothing.
 use borrow.Author.Needs.{needs}
-use mathlib.Core.Path.{sym, _∙_}
+use mathlib.Core.Path.{_∙_}
 use Rattle.report.proofs.job_wording.Statement.{statement}
 use Rattle.report.proofs.job_wording.Tie as tie
-
-job-status-requires : tie.Need-job-status-requires
-job-status-requires c κs = search needs
-
-number-of-requires : tie.Need-number-of-requires
-number-of-requires c κs = search needs
-
-wording-requires : tie.Need-wording-requires
-wording-requires c κs = search needs
 
 returns : tie.Need-returns
 returns c =
@@ -21,4 +12,4 @@ returns c =
 
 pub job-wording-spec : {M : Type 1} → statement M
 job-wording-spec =
-    tie.close (tie.spec job-status-requires number-of-requires wording-requires returns)
+    tie.close (tie.spec (λ c κs. search needs) (λ c κs. search needs) (λ c κs. search needs) returns)

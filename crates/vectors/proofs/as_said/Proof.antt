@@ -9,9 +9,6 @@ use Rattle.vectors.proofs.Counts.{compared}
 use Rattle.vectors.proofs.as_said.Statement.{statement}
 use Rattle.vectors.proofs.as_said.Tie as tie
 
-run-requires : tie.Need-run-requires
-run-requires c κs = search needs
-
 array-share-prefix-bytes : tie.Need-array-share-prefix-bytes
 array-share-prefix-bytes c = c .before .run .ensures .fits
 
@@ -20,16 +17,13 @@ slice-aggregate-same c =
     let output = c .before .before .run in
     sym (length-take-le (output .result .size) (output .result .bytes) (output .ensures .fits))
 
-same-requires : tie.Need-same-requires
-same-requires c κs = search needs
-
 returns : tie.Need-returns
 returns c =
-    let output = c .before .before .before .run in
-    let expected = c .before .before .before .before .before .before .args .expected .now in
-    compared _ _ expected (c .same .ensures) ∙ ap (λ (printed : List ℕ). same-bytes printed expected) (output .ensures .written)
+    let ran = c .before .before .before in
+    let expected = ran .before .before .before .args .expected .now in
+    compared _ _ expected (c .same .ensures) ∙ ap (λ (printed : List ℕ). same-bytes printed expected) (ran .run .ensures .written)
 
 pub as-said-spec : {M : Type 1} → statement M
 as-said-spec =
     tie.close
-    (tie.spec run-requires array-share-prefix-bytes slice-aggregate-same same-requires returns)
+    (tie.spec (λ c κs. search needs) array-share-prefix-bytes slice-aggregate-same (λ c κs. search needs) returns)

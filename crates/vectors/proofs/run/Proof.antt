@@ -10,12 +10,12 @@ use lib.ListN.{length}
 use borrow.Author.Needs.{needs}
 use Rattle.vectors.specs.declared.Placed.the-variants.{Whole, Cut, End}
 use Rattle.vectors.proofs.Cases.{CaseHere, says}
-use Rattle.vectors.proofs.Counts.{SoFar, starts, one-more, ends-here}
+use Rattle.vectors.proofs.Counts.{CasesSoFar, starts, one-more, ends-here}
 use Rattle.vectors.proofs.run.Statement.{statement}
 use Rattle.vectors.proofs.run.Tie as tie
 
 abbrev Inv-loop : tie.InvT-loop
-Inv-loop set cases₀ same₀ at₀ cases same at = SoFar set cases same at
+Inv-loop set cases₀ same₀ at₀ cases same at = CasesSoFar set cases same at
 
 abbrev μ-loop : tie.MeasureT-loop
 μ-loop set cases₀ same₀ at₀ cases same at = length set - at
@@ -31,7 +31,7 @@ entry c = c .before .before .before
 abbrev set-of : Read → List ℕ
 set-of c = now (entry c .args .set)
 
-so-far : (c : Read) → SoFar (set-of c) (c .before .loop .cases) (c .before .loop .same) (c .before .loop .at)
+so-far : (c : Read) → CasesSoFar (set-of c) (c .before .loop .cases) (c .before .loop .same) (c .before .loop .at)
 so-far c = c .before .loop .inv
 
 set-fits : (c : Read) → length (set-of c) < 2 ^ 63
@@ -47,12 +47,6 @@ here c =
 
 loop-holds : tie.Need-loop-holds Inv-loop μ-loop
 loop-holds c = starts _
-
-case-at-requires : tie.Need-case-at-requires Inv-loop μ-loop
-case-at-requires c κs = search needs
-
-enum-known-input : tie.Need-enum-known-input Inv-loop μ-loop
-enum-known-input c = search needs
 
 add-start : tie.Need-add-start Inv-loop μ-loop
 add-start c = omega (arith, here (c .before) .inside, set-fits (c .before .before .before))
@@ -84,12 +78,6 @@ part-as-said-start-2 c = omega (arith, here (c .before .before) .inside)
 part-as-said-end-2 : tie.Need-part-as-said-end-2 Inv-loop μ-loop
 part-as-said-end-2 c = omega (arith, here (c .before .before) .inside)
 
-as-said-requires : tie.Need-as-said-requires Inv-loop μ-loop
-as-said-requires c κs = search needs
-
-one-if-requires : tie.Need-one-if-requires Inv-loop μ-loop
-one-if-requires c κs = search needs
-
 -- ---- one case more
 
 abbrev input-there : tie.After-one-if Inv-loop μ-loop → tie.After-input Inv-loop μ-loop
@@ -101,7 +89,7 @@ read-there c = input-there c .before .before
 more : (c : tie.After-one-if Inv-loop μ-loop) →
     let loop = read-there c .before .loop in
     let sizes = input-there c .input .given .0 in
-    SoFar (set-of (read-there c)) (loop .cases + 1) (loop .same + c .one-if .result) (loop .at + 3 + sizes .0 + 1 + sizes .1 .0)
+    CasesSoFar (set-of (read-there c)) (loop .cases + 1) (loop .same + c .one-if .result) (loop .at + 3 + sizes .0 + 1 + sizes .1 .0)
 more c =
     one-more _ _ _ _ (so-far (read-there c)) _ _ _ _ _ _ _ (here (input-there c)) refl refl refl
     (c .before .as-said .ensures) (c .one-if .ensures)
@@ -122,16 +110,10 @@ loop-again c = more c
 
 -- ---- the set's end
 
-enum-told : tie.Need-enum-told Inv-loop μ-loop
-enum-told c = search needs
-
 returns : tie.Need-returns Inv-loop μ-loop
 returns c =
     let read = c .before .before in
     ends-here _ _ _ _ (so-far read) false (says _ _ Cut (sym (c .enum-told .given .1) ∙ read .case-at .ensures))
-
-enum-told-2 : tie.Need-enum-told-2 Inv-loop μ-loop
-enum-told-2 c = search needs
 
 returns-2 : tie.Need-returns-2 Inv-loop μ-loop
 returns-2 c =
@@ -145,8 +127,8 @@ run-spec =
     Inv-loop
     μ-loop
     loop-holds
-    case-at-requires
-    enum-known-input
+    (λ c κs. search needs)
+    (λ c. search needs)
     add-start
     add-place
     add-next
@@ -157,13 +139,13 @@ run-spec =
     sub-as-said-2
     part-as-said-start-2
     part-as-said-end-2
-    as-said-requires
-    one-if-requires
+    (λ c κs. search needs)
+    (λ c κs. search needs)
     add-same
     add-cases
     loop-less
     loop-again
-    enum-told
+    (λ c. search needs)
     returns
-    enum-told-2
+    (λ c. search needs)
     returns-2)

@@ -14,31 +14,19 @@ within c =
     let called = c .put-decimal in
     digits-within (decimal (c .before .before .args .number)) (replicate 20 0) _ _ (called .ensures .0) (called .ensures .1)
 
-slice-aggregate-put-decimal : tie.Need-slice-aggregate-put-decimal
-slice-aggregate-put-decimal c = search needs
-
-put-decimal-requires : tie.Need-put-decimal-requires
-put-decimal-requires c κs = search needs
-
 array-share-prefix-digits : tie.Need-array-share-prefix-digits
 array-share-prefix-digits c = within (c .before)
 
 slice-aggregate-write-all : tie.Need-slice-aggregate-write-all
 slice-aggregate-write-all c = sym (length-take-le _ _ (within (c .before .before)))
 
-write-all-requires : tie.Need-write-all-requires
-write-all-requires c κs = search needs
-
-returns : tie.Need-returns
-returns c = search needs
-
 pub write-number-spec : {M : Type 1} → statement M
 write-number-spec =
     tie.close
     (tie.spec
-    slice-aggregate-put-decimal
-    put-decimal-requires
+    (λ c. search needs)
+    (λ c κs. search needs)
     array-share-prefix-digits
     slice-aggregate-write-all
-    write-all-requires
-    returns)
+    (λ c κs. search needs)
+    (λ c. search needs))

@@ -1,0 +1,33 @@
+-- Demands 2 and 3 over a job: whatever job accepted plans and calls reach has what the demands say.
+-- Assumes nothing.
+use mathlib.Core.Path.{_≡_, sym, ap, subst}
+use mathlib.Core.Bool.{true, false}
+use mathlib.Core.Logic.{_↔_}
+use mathlib.Core.List.{List}
+use Prim.Native.Nat.{ℕ, _<_}
+use lib.ListN.{getD}
+use Rattle.model.specs.Plan.{Plan, tasks}
+use Rattle.model.specs.Machine.{State, Call, status}
+use Rattle.laws.proofs.Theorems.{demand-three, once-and-in-order, finished-exactly}
+use Rattle.memory.specs.declared.Job.{Job}
+use Rattle.memory.specs.Jobs.{job-state}
+use Rattle.engine.specs.Reached.{Reached}
+use Rattle.engine.specs.Demands.{JobDemands}
+use Rattle.engine.proofs.Known.{plan-sound}
+
+pub demands : {plan : Plan} {calls : List Call} {job : Job} → Reached plan calls job → JobDemands plan calls job
+unfolding job-state
+demands {plan} {calls} r =
+    let sound = plan-sound (r .accepted-plan) in
+    record {
+      shows-work = ap (λ (s : State). s .execution .counts .works .work) (r .its-state);
+      shows-mugs = ap (λ (s : State). s .execution .counts .mugs .mug) (r .its-state);
+      demand-three = demand-three sound calls;
+      shows-state = r .its-state;
+      in-order = once-and-in-order sound calls;
+      finished-exactly =
+          subst
+          (λ (s : State). (status s ≡ 3) ↔ ((t : ℕ) → t < tasks (plan .graph) → getD (s .execution .worked) t false ≡ true))
+          (sym (r .its-state))
+          (finished-exactly sound calls);
+    }

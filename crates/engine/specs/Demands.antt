@@ -1,0 +1,26 @@
+-- Demands 2 and 3 over a job that a plan and a list of calls, refused ones included, reach. The history is made from the plan and the calls
+-- alone; what the job shows is compared with it.
+use mathlib.Core.Path.{_≡_}
+use mathlib.Core.Bool.{true, false}
+use mathlib.Core.Logic.{_↔_}
+use mathlib.Core.List.{List}
+use Prim.Native.Nat.{ℕ, _<_}
+use lib.ListN.{getD}
+use Rattle.model.specs.Plan.{Plan, tasks}
+use Rattle.model.specs.Machine.{Call, status}
+use Rattle.model.specs.History.{run, work-count, mug-count}
+use Rattle.model.specs.Statements.{Demand3, OnceAndInOrder}
+use Rattle.memory.specs.declared.Job.{Job}
+use Rattle.memory.specs.Jobs.{job-numbers, job-state}
+
+pub record JobDemands (plan : Plan) (calls : List Call) (job : Job) : Type 0 where
+  -- demand 3: the record shows the history's W and M; the mug limit and the pairing
+  pub shows-work : job-numbers job .works ≡ work-count (run plan calls)
+  pub shows-mugs : job-numbers job .mugs ≡ mug-count (run plan calls)
+  pub demand-three : Demand3 plan calls
+  -- demand 2: the record shows the history's state, each piece is worked at most once and after all before it, and finished is shown
+  -- when all pieces are worked and never otherwise
+  pub shows-state : job-state job ≡ run plan calls .state
+  pub in-order : OnceAndInOrder plan (run plan calls)
+  pub finished-exactly : (status (job-state job) ≡ 3) ↔
+      ((t : ℕ) → t < tasks (plan .graph) → getD (job-state job .execution .worked) t false ≡ true)
