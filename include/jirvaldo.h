@@ -4,8 +4,8 @@
  * L ticks; in each tick every granted worker takes one cycle. A function answers with 0, or with the number of the refusal; the first
  * question that is answered by no gives the number. Nothing is allocated, nothing is kept between calls, no file is read or written.
  *
- * Proved, for all that a caller can hand over: the jirvaldo_core functions in the archive (crates/exports/specs/Promises.antt
- * and, for a log, crates/exports_log/specs/Promise.antt).
+ * Proved, for all that a caller can hand over: the jirvaldo_core functions in the archive (the contracts of crates/exports
+ * and, for a log, of crates/exports_log).
  * Not proved: the inline functions of this file, which only hand the parts of a job to those, and what is asked of you:
  *   - a job that is handed over holds an accepted plan's job, moved by these functions or not, or a byte copy of one;
  *   - a pointer is valid for its size, and what it points to overlaps neither the job nor what another pointer of the call points to;
@@ -27,21 +27,17 @@ enum {
     JIRVALDO_PLAN_MAX = 3077,   /* bytes of the longest plan, 5 + 3 * 1,024 */
     JIRVALDO_WORKERS_MAX = 64,  /* workers that a job can want, and choices of a tick */
     JIRVALDO_LINE_BUFFER = 128, /* bytes that a buffer for the counters line needs */
-    JIRVALDO_JOB_SIZE = 7824    /* bytes of a job */
+    JIRVALDO_JOB_SIZE = 8848    /* bytes of a job */
 };
 
 /* A job: plain data without pointers. Lend it and leave its fields alone. It need not be cleared before a plan is accepted into it; a byte
  * copy of a job is a job; there is nothing to free. */
 typedef struct jirvaldo_job {
     uint64_t words_[18];
-    uint16_t first_[1024];
-    uint16_t second_[1024];
-    uint16_t next_[1024];
-    uint16_t ends_[256];
-    uint8_t pending_[1024];
+    uint16_t memory_[4352];
 } jirvaldo_job;
 
-typedef char jirvaldo_job_has_7824_bytes[sizeof(jirvaldo_job) == JIRVALDO_JOB_SIZE ? 1 : -1];
+typedef char jirvaldo_job_has_8848_bytes[sizeof(jirvaldo_job) == JIRVALDO_JOB_SIZE ? 1 : -1];
 typedef char jirvaldo_sizes_have_64_bits[sizeof(size_t) == 8 ? 1 : -1];
 
 /* The refusals; jirvaldo_sentence says each. 21 and 22 are given by the program alone, by no function here. */
@@ -99,13 +95,10 @@ typedef struct jirvaldo_numbers {
 } jirvaldo_numbers;
 
 /* The archive's functions. No pointer of these may be null, also where its size is 0; the functions below see to that. */
-uint8_t jirvaldo_core_accept(const uint8_t *plan, size_t plan_size, uint16_t *first, uint16_t *second, uint8_t *pending, uint16_t *next,
-    uint16_t *ends, uint64_t *words);
-uint8_t jirvaldo_core_grant(uint16_t *ends, uint64_t *words, uint64_t workers);
-uint8_t jirvaldo_core_tick(const uint16_t *first, const uint16_t *second, uint8_t *pending, uint16_t *next, uint16_t *ends,
-    uint64_t *words, const uint8_t *choices, size_t choices_size);
-uint8_t jirvaldo_core_run_log(const uint16_t *first, const uint16_t *second, uint8_t *pending, uint16_t *next, uint16_t *ends,
-    uint64_t *words, const uint8_t *log, size_t log_size, uint64_t *refusals);
+uint8_t jirvaldo_core_accept(const uint8_t *plan, size_t plan_size, uint16_t *memory, uint64_t *words);
+uint8_t jirvaldo_core_grant(uint16_t *memory, uint64_t *words, uint64_t workers);
+uint8_t jirvaldo_core_tick(uint16_t *memory, uint64_t *words, const uint8_t *choices, size_t choices_size);
+uint8_t jirvaldo_core_run_log(uint16_t *memory, uint64_t *words, const uint8_t *log, size_t log_size, uint64_t *refusals);
 uint8_t jirvaldo_core_status(const uint64_t *words);
 uint8_t jirvaldo_core_wording(const uint64_t *words, const uint8_t *sheet, size_t sheet_size, size_t *start, size_t *size);
 void jirvaldo_core_counters(const uint64_t *words, uint64_t refusals, uint64_t *numbers);
@@ -116,8 +109,7 @@ uint8_t jirvaldo_core_line(const uint64_t *words, uint64_t refusals, uint8_t *bu
 static inline unsigned jirvaldo_accept(jirvaldo_job *job, const uint8_t *plan, size_t size)
 {
     const uint8_t none = 0;
-    return jirvaldo_core_accept(size == 0 ? &none : plan, size, job->first_, job->second_, job->pending_, job->next_, job->ends_,
-        job->words_);
+    return jirvaldo_core_accept(size == 0 ? &none : plan, size, job->memory_, job->words_);
 }
 
 /* Grants a number of workers, 0 included, for the next quantum. 0: the quantum is open and takes L ticks; workers above the number are
@@ -125,7 +117,7 @@ static inline unsigned jirvaldo_accept(jirvaldo_job *job, const uint8_t *plan, s
  * job wants fewer workers, as it does of every number above 64. Refused, the job is byte for byte as it was. */
 static inline unsigned jirvaldo_grant(jirvaldo_job *job, uint64_t workers)
 {
-    return jirvaldo_core_grant(job->ends_, job->words_, workers);
+    return jirvaldo_core_grant(job->memory_, job->words_, workers);
 }
 
 /* One tick, with the number of a worker to steal from for each granted worker. 0: each worker took its cycle, in number order, up to the
@@ -135,8 +127,7 @@ static inline unsigned jirvaldo_grant(jirvaldo_job *job, uint64_t workers)
 static inline unsigned jirvaldo_tick(jirvaldo_job *job, const uint8_t *choices, size_t size)
 {
     const uint8_t none = 0;
-    return jirvaldo_core_tick(job->first_, job->second_, job->pending_, job->next_, job->ends_, job->words_, size == 0 ? &none : choices,
-        size);
+    return jirvaldo_core_tick(job->memory_, job->words_, size == 0 ? &none : choices, size);
 }
 
 /* Runs a log of any bytes, entry after entry, as the same grants and ticks would; refused ones are counted in *refused_calls and passed
@@ -146,8 +137,7 @@ static inline unsigned jirvaldo_run_log(jirvaldo_job *job, const uint8_t *log, s
 {
     const uint8_t none = 0;
     uint64_t refusals = 0;
-    unsigned answer = jirvaldo_core_run_log(job->first_, job->second_, job->pending_, job->next_, job->ends_, job->words_,
-        size == 0 ? &none : log, size, &refusals);
+    unsigned answer = jirvaldo_core_run_log(job->memory_, job->words_, size == 0 ? &none : log, size, &refusals);
     if (refused_calls) *refused_calls = refusals;
     return answer;
 }

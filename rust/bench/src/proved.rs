@@ -1,13 +1,9 @@
 //! The proved static library, called as C calls it.
 
-/// A job as the library takes it: its arrays and its words, side by side.
+/// A job as the library takes it: its memory and its words.
 #[derive(Clone)]
 pub struct Job {
-    first: [u16; 1024],
-    second: [u16; 1024],
-    pending: [u8; 1024],
-    next: [u16; 1024],
-    ends: [u16; 256],
+    memory: [u16; 4352],
     words: [u64; 18],
 }
 
@@ -16,30 +12,18 @@ extern "C" {
     fn jirvaldo_core_accept(
         plan: *const u8,
         plan_size: usize,
-        first: *mut u16,
-        second: *mut u16,
-        pending: *mut u8,
-        next: *mut u16,
-        ends: *mut u16,
+        memory: *mut u16,
         words: *mut u64,
     ) -> u8;
-    fn jirvaldo_core_grant(ends: *mut u16, words: *mut u64, workers: u64) -> u8;
+    fn jirvaldo_core_grant(memory: *mut u16, words: *mut u64, workers: u64) -> u8;
     fn jirvaldo_core_tick(
-        first: *const u16,
-        second: *const u16,
-        pending: *mut u8,
-        next: *mut u16,
-        ends: *mut u16,
+        memory: *mut u16,
         words: *mut u64,
         choices: *const u8,
         choices_size: usize,
     ) -> u8;
     fn jirvaldo_core_run_log(
-        first: *const u16,
-        second: *const u16,
-        pending: *mut u8,
-        next: *mut u16,
-        ends: *mut u16,
+        memory: *mut u16,
         words: *mut u64,
         log: *const u8,
         log_size: usize,
@@ -68,63 +52,28 @@ impl Job {
     /// Memory for a job, which is none until a plan is accepted.
     pub fn blank() -> Job {
         Job {
-            first: [0; 1024],
-            second: [0; 1024],
-            pending: [0; 1024],
-            next: [0; 1024],
-            ends: [0; 256],
+            memory: [0; 4352],
             words: [0; 18],
         }
     }
 
     pub fn accept(&mut self, plan: &[u8]) -> u8 {
-        unsafe {
-            jirvaldo_core_accept(
-                plan.as_ptr(),
-                plan.len(),
-                self.first.as_mut_ptr(),
-                self.second.as_mut_ptr(),
-                self.pending.as_mut_ptr(),
-                self.next.as_mut_ptr(),
-                self.ends.as_mut_ptr(),
-                self.words.as_mut_ptr(),
-            )
-        }
+        let (memory, words) = (self.memory.as_mut_ptr(), self.words.as_mut_ptr());
+        unsafe { jirvaldo_core_accept(plan.as_ptr(), plan.len(), memory, words) }
     }
 
     pub fn grant(&mut self, workers: u64) -> u8 {
-        unsafe { jirvaldo_core_grant(self.ends.as_mut_ptr(), self.words.as_mut_ptr(), workers) }
+        unsafe { jirvaldo_core_grant(self.memory.as_mut_ptr(), self.words.as_mut_ptr(), workers) }
     }
 
     pub fn tick(&mut self, choices: &[u8]) -> u8 {
-        unsafe {
-            jirvaldo_core_tick(
-                self.first.as_ptr(),
-                self.second.as_ptr(),
-                self.pending.as_mut_ptr(),
-                self.next.as_mut_ptr(),
-                self.ends.as_mut_ptr(),
-                self.words.as_mut_ptr(),
-                choices.as_ptr(),
-                choices.len(),
-            )
-        }
+        let (memory, words) = (self.memory.as_mut_ptr(), self.words.as_mut_ptr());
+        unsafe { jirvaldo_core_tick(memory, words, choices.as_ptr(), choices.len()) }
     }
 
     pub fn run_log(&mut self, log: &[u8], refusals: &mut u64) -> u8 {
-        unsafe {
-            jirvaldo_core_run_log(
-                self.first.as_ptr(),
-                self.second.as_ptr(),
-                self.pending.as_mut_ptr(),
-                self.next.as_mut_ptr(),
-                self.ends.as_mut_ptr(),
-                self.words.as_mut_ptr(),
-                log.as_ptr(),
-                log.len(),
-                refusals,
-            )
-        }
+        let (memory, words) = (self.memory.as_mut_ptr(), self.words.as_mut_ptr());
+        unsafe { jirvaldo_core_run_log(memory, words, log.as_ptr(), log.len(), refusals) }
     }
 
     pub fn status(&self) -> u8 {

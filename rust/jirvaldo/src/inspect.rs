@@ -1,7 +1,7 @@
 //! What a job's memory holds, for consoles and tests: the deques, the worked tasks, the open quantum, the plan.
 //!
-//! This reads the memory in plain Rust, by the view of `crates/memory/specs/Held.antt` and `crates/deque/specs/View.antt`, over which
-//! the library's promises are stated. It is written after these definitions and not itself proved.
+//! This reads the memory in plain Rust, by the view of `crates/memory/specs/Jobs.antt`, over which the library's promises are
+//! stated. It is written after these definitions and not itself proved.
 //!
 //! ```
 //! use jirvaldo::{inspect::State, Job};
@@ -24,7 +24,7 @@ use crate::raw::Memory;
 use crate::{Job, MOST_WORKERS};
 
 /// What `pending` holds of a worked task.
-const WORKED: u8 = 3;
+const WORKED: u16 = 3;
 
 /// A look into a job, which copies nothing. Tasks and workers are numbered from 0; of a number past the last nothing is shown: no
 /// successors, an empty deque, not worked.
@@ -110,12 +110,12 @@ impl<'a> View<'a> {
         self.deque_at((age < self.muggable_deques()).then_some(MOST_WORKERS + ring))
     }
 
-    /// The deque at a place of `ends`: its front there, its size 128 further on. What its links hold past the size is not read.
+    /// The deque at a place of `ends`: its front and its size stand side by side. What its links hold past the size is not read.
     fn deque_at(self, place: Option<usize>) -> impl Iterator<Item = u16> + 'a {
         let at = |list: &[u16], place: usize| list.get(place).copied().unwrap_or(0);
         let (next, ends) = (self.memory.next(), self.memory.ends());
-        let size = place.map_or(0, |place| at(ends, place + 2 * MOST_WORKERS));
-        let front = place.map(|place| at(ends, place));
+        let size = place.map_or(0, |place| at(ends, 2 * place + 1));
+        let front = place.map(|place| at(ends, 2 * place));
         let links = std::iter::successors(front, move |&task| Some(at(next, task.into())));
         links.take(size.into())
     }

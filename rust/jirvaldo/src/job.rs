@@ -8,7 +8,7 @@ use crate::raw::Memory;
 use crate::refusal::{answer, refusal};
 use crate::{Counters, Line, Refusal, Status, LINE_BUFFER};
 
-/// A job: 7,824 bytes of plain data, without pointers. It comes from an accepted plan and is moved by [`grant`](Job::grant),
+/// A job: 8,848 bytes of plain data, without pointers. It comes from an accepted plan and is moved by [`grant`](Job::grant),
 /// [`tick`](Job::tick) and [`run_log`](Job::run_log); each call either is accepted whole or is refused by number and changes nothing.
 ///
 /// A clone is a job of its own: the two go on independently. A job is `Send` and `Sync` and the library keeps no state beside it, so
@@ -22,7 +22,7 @@ pub struct Job {
     memory: Memory,
 }
 
-const _: () = assert!(std::mem::size_of::<Job>() == 7824);
+const _: () = assert!(std::mem::size_of::<Job>() == 8848);
 
 /// What a log did to a job.
 #[derive(Clone, Copy, Debug, PartialEq, Eq)]

@@ -8,6 +8,8 @@ use crate::{MOST_TASKS, MOST_WORKERS};
 
 /// The fronts and sizes of the workers' deques and of as many muggable ones.
 const ENDS: usize = 4 * MOST_WORKERS;
+/// Four numbers of each task, and the deques' ends.
+const PARTS: usize = 4 * MOST_TASKS + ENDS;
 const WORDS: usize = 18;
 
 /// The memory of a job, laid out as in C: `include/jirvaldo.h` has the same parts in the same order.
@@ -16,41 +18,26 @@ const WORDS: usize = 18;
 #[cfg_attr(test, derive(Debug, PartialEq))]
 pub(crate) struct Memory {
     words: [u64; WORDS],
-    first: [u16; MOST_TASKS],
-    second: [u16; MOST_TASKS],
-    next: [u16; MOST_TASKS],
-    ends: [u16; ENDS],
-    pending: [u8; MOST_TASKS],
+    parts: [u16; PARTS],
 }
 
 extern "C" {
     fn jirvaldo_core_accept(
         plan: *const u8,
         plan_size: usize,
-        first: &mut [u16; MOST_TASKS],
-        second: &mut [u16; MOST_TASKS],
-        pending: &mut [u8; MOST_TASKS],
-        next: &mut [u16; MOST_TASKS],
-        ends: &mut [u16; ENDS],
+        memory: &mut [u16; PARTS],
         words: &mut [u64; WORDS],
     ) -> u8;
-    fn jirvaldo_core_grant(ends: &mut [u16; ENDS], words: &mut [u64; WORDS], workers: u64) -> u8;
+    fn jirvaldo_core_grant(memory: &mut [u16; PARTS], words: &mut [u64; WORDS], workers: u64)
+        -> u8;
     fn jirvaldo_core_tick(
-        first: &[u16; MOST_TASKS],
-        second: &[u16; MOST_TASKS],
-        pending: &mut [u8; MOST_TASKS],
-        next: &mut [u16; MOST_TASKS],
-        ends: &mut [u16; ENDS],
+        memory: &mut [u16; PARTS],
         words: &mut [u64; WORDS],
         choices: *const u8,
         choices_size: usize,
     ) -> u8;
     fn jirvaldo_core_run_log(
-        first: &[u16; MOST_TASKS],
-        second: &[u16; MOST_TASKS],
-        pending: &mut [u8; MOST_TASKS],
-        next: &mut [u16; MOST_TASKS],
-        ends: &mut [u16; ENDS],
+        memory: &mut [u16; PARTS],
         words: &mut [u64; WORDS],
         log: *const u8,
         log_size: usize,
@@ -82,11 +69,7 @@ impl Memory {
         // no job yet; it does not leave this function unless the plan is accepted
         let mut memory = Memory {
             words: [0; WORDS],
-            first: [0; MOST_TASKS],
-            second: [0; MOST_TASKS],
-            next: [0; MOST_TASKS],
-            ends: [0; ENDS],
-            pending: [0; MOST_TASKS],
+            parts: [0; PARTS],
         };
         match memory.replace(plan) {
             0 => Ok(memory),
@@ -97,25 +80,14 @@ impl Memory {
     /// The memory becomes the plan's fresh job; refused, it stays.
     #[inline]
     pub(crate) fn replace(&mut self, plan: &[u8]) -> u8 {
-        // SAFETY: the pointer and the size are a slice's, the arrays are parts of one `&mut self`; nothing is asked of what they hold.
-        unsafe {
-            jirvaldo_core_accept(
-                plan.as_ptr(),
-                plan.len(),
-                &mut self.first,
-                &mut self.second,
-                &mut self.pending,
-                &mut self.next,
-                &mut self.ends,
-                &mut self.words,
-            )
-        }
+        // SAFETY: the pointer and the size are a slice's, memory and words are parts of one `&mut self`; nothing is asked of what they hold.
+        unsafe { jirvaldo_core_accept(plan.as_ptr(), plan.len(), &mut self.parts, &mut self.words) }
     }
 
     #[inline]
     pub(crate) fn grant(&mut self, workers: u64) -> u8 {
         // SAFETY: the memory holds a job.
-        unsafe { jirvaldo_core_grant(&mut self.ends, &mut self.words, workers) }
+        unsafe { jirvaldo_core_grant(&mut self.parts, &mut self.words, workers) }
     }
 
     #[inline]
@@ -123,11 +95,7 @@ impl Memory {
         // SAFETY: the memory holds a job; the pointer and the size are a slice's, which can't be a part of `&mut self`.
         unsafe {
             jirvaldo_core_tick(
-                &self.first,
-                &self.second,
-                &mut self.pending,
-                &mut self.next,
-                &mut self.ends,
+                &mut self.parts,
                 &mut self.words,
                 choices.as_ptr(),
                 choices.len(),
@@ -142,11 +110,7 @@ impl Memory {
         // SAFETY: as for a tick; `refusals` is a local.
         let number = unsafe {
             jirvaldo_core_run_log(
-                &self.first,
-                &self.second,
-                &mut self.pending,
-                &mut self.next,
-                &mut self.ends,
+                &mut self.parts,
                 &mut self.words,
                 log.as_ptr(),
                 log.len(),
@@ -208,26 +172,30 @@ impl Memory {
     }
 }
 
-/// The parts, to be read.
+/// The parts, to be read: `crates/memory/specs/Parts.antt` says where each lies.
 impl Memory {
-    pub(crate) fn first(&self) -> &[u16; MOST_TASKS] {
-        &self.first
+    pub(crate) fn first(&self) -> &[u16] {
+        self.of_each_task(0)
     }
 
-    pub(crate) fn second(&self) -> &[u16; MOST_TASKS] {
-        &self.second
+    pub(crate) fn second(&self) -> &[u16] {
+        self.of_each_task(1)
     }
 
-    pub(crate) fn pending(&self) -> &[u8; MOST_TASKS] {
-        &self.pending
+    pub(crate) fn next(&self) -> &[u16] {
+        self.of_each_task(2)
     }
 
-    pub(crate) fn next(&self) -> &[u16; MOST_TASKS] {
-        &self.next
+    pub(crate) fn pending(&self) -> &[u16] {
+        self.of_each_task(3)
     }
 
-    pub(crate) fn ends(&self) -> &[u16; ENDS] {
-        &self.ends
+    pub(crate) fn ends(&self) -> &[u16] {
+        &self.parts[4 * MOST_TASKS..]
+    }
+
+    fn of_each_task(&self, part: usize) -> &[u16] {
+        &self.parts[part * MOST_TASKS..][..MOST_TASKS]
     }
 
     pub(crate) fn words(&self) -> &[u64; WORDS] {
@@ -245,11 +213,7 @@ mod tests {
     fn zeros_do_not_show_as_finished() {
         let mut memory = Memory {
             words: [0; WORDS],
-            first: [0; MOST_TASKS],
-            second: [0; MOST_TASKS],
-            next: [0; MOST_TASKS],
-            ends: [0; ENDS],
-            pending: [0; MOST_TASKS],
+            parts: [0; PARTS],
         };
         assert_eq!(memory.replace(&[]), 1);
         assert_ne!(memory.status(), 3);

@@ -1,30 +1,78 @@
-//! The C header says the same.
+//! The C header and the documents' tables say the same.
 
 use jirvaldo::Refusal;
 
-/// The crate's sentence as the header writes it.
-fn in_the_header(refusal: Refusal) -> String {
+const HEADER: &str = include_str!("../../../../include/jirvaldo.h");
+const INTEGRATING: &str = include_str!("../../../../docs/INTEGRATING.md");
+const REFERENCE: &str = include_str!("../../../../docs/REFERENCE.md");
+
+/// The crate's sentence with a capital and a full stop.
+fn whole_sentence(refusal: Refusal) -> String {
     let sentence = refusal.to_string();
     let (first, rest) = sentence.split_at(1);
-    format!("return \"{}{rest}.\";", first.to_uppercase())
+    format!("{}{rest}.", first.to_uppercase())
+}
+
+/// The header's name of a refusal's number.
+fn name(refusal: Refusal) -> &'static str {
+    let numbered = format!(" = {}", refusal.number());
+    let line = HEADER
+        .lines()
+        .find(|line| line.contains("JIRVALDO_") && line.trim_end_matches(',').ends_with(&numbered));
+    line.and_then(|line| line.split_whitespace().next())
+        .expect("a name for the number")
 }
 
 /// `include/jirvaldo.h` has the sentence of each number.
 #[test]
 fn sentences() {
-    let header = include_str!("../../../../include/jirvaldo.h");
     for refusal in Refusal::ALL {
-        let numbered = format!(" = {},", refusal.number());
-        let line = header
-            .lines()
-            .find(|line| line.contains("JIRVALDO_") && line.ends_with(&numbered));
-        let name = line
-            .and_then(|line| line.split_whitespace().next())
-            .expect("a name for the number");
-        let case = format!("case {name}: ");
-        let said = header
+        let case = format!("case {}: ", name(refusal));
+        let said = HEADER
             .lines()
             .find_map(|line| line.trim_start().strip_prefix(&case));
-        assert_eq!(said, Some(in_the_header(refusal).as_str()), "{name}");
+        let expected = format!("return \"{}\";", whole_sentence(refusal));
+        assert_eq!(said, Some(expected.as_str()), "{}", name(refusal));
     }
+}
+
+/// `docs/INTEGRATING.md` has a row for each refusal, with the header's name and sentence, and no other.
+#[test]
+fn makers_table() {
+    for refusal in Refusal::ALL {
+        let cells = [
+            refusal.number().to_string(),
+            format!("`{}`", name(refusal)),
+            whole_sentence(refusal),
+        ];
+        let row = format!("| {} |", cells.join(" | "));
+        let found = INTEGRATING.lines().filter(|line| line.starts_with(&row));
+        assert_eq!(found.count(), 1, "{row}");
+    }
+}
+
+/// The numbers of a document's table of refusals, from top to bottom.
+fn numbers(document: &str) -> Vec<String> {
+    let table = document
+        .lines()
+        .skip_while(|line| !line.starts_with("| number |"))
+        .skip(2);
+    let rows = table.take_while(|line| line.starts_with("| "));
+    rows.filter_map(|line| line.split(' ').nth(1).map(str::to_owned))
+        .collect()
+}
+
+/// Both documents, each in its own words, have one row for each number that the header names, in order.
+#[test]
+fn numbers_of_the_tables() {
+    let named = HEADER
+        .lines()
+        .skip_while(|line| *line != "enum jirvaldo_refusal {")
+        .skip(2)
+        .take_while(|line| *line != "};")
+        .filter_map(|line| line.trim_end_matches(',').split(" = ").nth(1));
+    let named: Vec<&str> = named.collect();
+    assert_eq!(named.len(), 22);
+    assert_eq!(numbers(REFERENCE), named);
+    assert_eq!(numbers(INTEGRATING), named);
 }
