@@ -3,6 +3,7 @@ use mathlib.Core.Path.{_≡_}
 use Prim.Native.Nat.{ℕ, _-_, _≤_}
 use native.Mathlib.Omega.{arith}
 use Rattle.model.specs.Machine.{stolen-count}
+use Rattle.laws.proofs.Stealing.{some-left}
 use Rattle.memory.specs.declared.Deque.{Deque}
 use Rattle.memory.specs.Parts.{Parts}
 use Rattle.memory.specs.View.{ends-at, put-part}
@@ -10,8 +11,9 @@ use Rattle.deque.specs.Links.{link-after, Reachable, Robbable, robbed}
 use Rattle.deque.proofs.Walks.{reachable-part}
 
 module _ {p : Parts} {thief victim : ℕ} (r : Robbable p thief victim) {d : Deque} (read : d ≡ ends-at (p .ends) victim) where
-  pub two-tasks : 2 ≤ d .size
-  two-tasks = rw read (r .two-or-more)
+  -- a steal takes no more than there is
+  pub part-taken : {taken : ℕ} → taken ≡ stolen-count (d .size) → taken ≤ d .size
+  part-taken right = omega (arith, some-left (d .size) (rw read (r .two-or-more)))
 
   pub part-of-the-way : (left : ℕ) → left ≤ d .size → Reachable (p .next) (d .front) left
   part-of-the-way left few =

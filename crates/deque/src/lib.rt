@@ -66,9 +66,8 @@ pub fn ahead(memory: &[u16; 4352], front: u16, steps: u16) -> u16
 }
 
 // How many tasks a steal takes from the back of a deque.
-pub fn stolen_count(size: u16) -> u16
-    requires { ⌜ 2 ≤ size ⌝ }
-    ensures { λ r. ⌜ (r ≡ stolen-count size) × (r ≤ size) ⌝ }
+fn stolen_count(size: u16) -> u16
+    ensures { λ r. ⌜ r ≡ stolen-count size ⌝ }
 {
     1
 }

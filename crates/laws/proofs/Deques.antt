@@ -23,9 +23,6 @@ unfolding occurrences
 occurrences-append t [] ys = omega arith
 occurrences-append t (x ∷ xs) ys = omega (arith, occurrences-append t xs ys)
 
-pub occurrences-split : (t n : ℕ) (xs : List ℕ) → occurrences t (take n xs) + occurrences t (drop n xs) ≡ occurrences t xs
-occurrences-split t n xs = sym (occurrences-append t (take n xs) (drop n xs)) ∙ ap (occurrences t) (take-append-drop n xs)
-
 pub occurs : (t : ℕ) (xs : List ℕ) → List·Memᴰ t xs → 1 ≤ occurrences t xs
 unfolding occurrences
 occurs t (x ∷ xs) (List·Memᴰ·head e) = rw (eq-eqb t x e) (omega arith)

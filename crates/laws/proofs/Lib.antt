@@ -1,12 +1,13 @@
 -- The proofs, by topic. Theorems has every law of a history on one page: a stranger reads it first.
 -- Lists, Readiness, Awaiting: lists and flags, when a task is ready, and how many predecessors it still awaits.
--- Cycles, Placement, Bounds, Grants: what a worker's cycle, a tick's cycles and a grant keep.
+-- Stealing: what a steal takes and leaves. Cycles, Placement, Bounds, Grants: what a worker's cycle, a tick's cycles and a grant keep.
 -- Accepted, Runs: accepted calls, and how a property is carried through a list of calls. Histories: where the tasks stand and how large the
 -- counts are after any calls. Progress: some worker works or mugs. Order: each task once and in order. Meaning: what the counts count.
 -- Counting: what a tick's cycles spend. Ladder: what is used of the desires, and that the powers of R have it. Powers: the open quantum,
 -- and what a quantum's end does to the desire. Tops: the table of top desires, and that the desire stops there.
 -- PairingLaw: the partners of the inefficient quanta. MugLimitLaw: the balance that bounds the mugs. Carried: these in one induction.
 pub mod Deques
+pub mod Stealing
 pub mod Readiness
 pub mod Awaiting
 pub mod Cycles

@@ -18,11 +18,9 @@ use Rattle.model.specs.Machine.{successful-steal, failed-steal, cycle, cycles}
 use Rattle.model.specs.Statements.{SoundGraph}
 use Rattle.laws.specs.Invariants.{occurrences, in-deques, waiting-work, Placed, Tallied}
 use Rattle.lists.proofs.Tests.{true-is-not-false, not-true-is-false, one-or-none, is-one, and-right}
-use Rattle.laws.proofs.Deques.{occurrences-append}
-use Rattle.lists.proofs.Lists.{member-is}
-use Rattle.laws.proofs.Deques.{occurrences-split, occurrences-keep, occurs, no-member, in-deques-set, one-deque}
-use Rattle.lists.proofs.Lists.{count-set-more}
-use Rattle.laws.proofs.Deques.{filled-within}
+use Rattle.lists.proofs.Lists.{member-is, count-set-more}
+use Rattle.laws.proofs.Deques.{occurrences-append, occurrences-keep, occurs, no-member, in-deques-set, one-deque, filled-within}
+use Rattle.laws.proofs.Stealing.{left-then-taken}
 use Rattle.laws.proofs.Readiness.{ready-elsewhere, ready-kept, not-ready, is-ready, above, inside, successor-once, Waits, waits}
 use Rattle.laws.proofs.Readiness.{is-waiting, not-waiting-worked, not-waiting-unready}
 use Rattle.laws.proofs.Cycles.{cycle-cases, cycles-keep}
@@ -193,7 +191,7 @@ module _ {graph : Graph} {e : Execution} (sound : SoundGraph graph) (placed : Pl
       }
 
   steal-placed : (choice : ℕ) → deque-of e w ≡ [] → 2 ≤ length (deque-of e choice) → Placed graph (successful-steal w choice e)
-  unfolding successful-steal left-by-steal taken-by-steal occurrences
+  unfolding successful-steal occurrences
   steal-placed choice own two =
       record {
         flags = placed .flags;
@@ -204,7 +202,8 @@ module _ {graph : Graph} {e : Execution} (sound : SoundGraph graph) (placed : Pl
               arith,
               robbed,
               rw (unrobbed, own) at moved,
-              occurrences-split x (length (deque-of e choice) - 1) (deque-of e choice),
+              occurrences-append x left taken,
+              ap (occurrences x) (left-then-taken (deque-of e choice)),
               placed .once x,
             );
         filled = placed .filled;
@@ -212,10 +211,10 @@ module _ {graph : Graph} {e : Execution} (sound : SoundGraph graph) (placed : Pl
       }
     where
       left : List ℕ
-      left = take (length (deque-of e choice) - 1) (deque-of e choice)
+      left = left-by-steal (deque-of e choice)
 
       taken : List ℕ
-      taken = drop (length (deque-of e choice) - 1) (deque-of e choice)
+      taken = taken-by-steal (deque-of e choice)
 
       there : choice < length (e .deques)
       there = filled-within (e .deques) choice (omega arith)

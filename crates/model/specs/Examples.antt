@@ -422,7 +422,7 @@ unfolding same row-holds failing task plan-bytes diamond one-task seven easy-sev
     Plan.plan-of Plan.fields-ok Plan.two-differ Plan.targets-ok Plan.task-questions Plan.all-preceded Plan.one-exit Plan.header-questions
     Plan.graph-questions Plan.plan-questions Plan.plan-answer Machine.finished Machine.fresh Machine.grant-questions Machine.kept-deques
     Machine.withdrawn-deques Machine.first-task-placed Machine.grant Machine.tick-questions Machine.cycle-of Machine.ready
-    Machine.released Machine.left-by-steal Machine.taken-by-steal Machine.work-cycle Machine.mug-cycle Machine.successful-steal
+    Machine.released Machine.stolen-count Machine.left-by-steal Machine.taken-by-steal Machine.work-cycle Machine.mug-cycle Machine.successful-steal
     Machine.failed-steal Machine.cycle Machine.cycles Machine.cycles-made Machine.ticked Machine.efficient Machine.satisfied
     Machine.next-desire Machine.closes Machine.closed Machine.tick Machine.top-desires Machine.call-answer Machine.step Machine.status
     History.beginning History.history-grant History.history-tick History.history-step History.run-from History.run History.tasks-in

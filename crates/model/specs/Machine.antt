@@ -183,7 +183,7 @@ unfoldable pub released : Graph → List Bool → ℕ → List ℕ
 released graph worked t = keep (ready graph worked) (successors-of graph t)
 
 -- how many tasks a steal takes from the back of a deque of n
-abbrev pub stolen-count : ℕ → ℕ
+unfoldable pub stolen-count : ℕ → ℕ
 stolen-count n = 1
 
 -- what a steal leaves, and what it takes

@@ -11,6 +11,7 @@ use borrow.Author.Tests.{lt-ltb}
 use Rattle.model.specs.Tests.{below}
 use Rattle.model.specs.Machine.{deque-of, stolen-count, successful-steal, failed-steal, left-by-steal, taken-by-steal}
 use Rattle.lists.proofs.Lists.{every-from}
+use Rattle.laws.proofs.Stealing.{some-left}
 use Rattle.laws.proofs.Placement.{worker-has}
 use Rattle.memory.specs.declared.Deque.{Deque}
 use Rattle.memory.specs.Parts.{Parts}
@@ -98,7 +99,7 @@ module _ {p : Parts} {m : Numbers} {w choice : ℕ} (turn : ChoiceTurn p m w cho
     goes : walk (p .next) (link-after (p .next) front (size - stolen-count size)) (stolen-count size) ≡ taken-by-steal victim
     unfolding taken-by-steal
     goes =
-        let whole : (size - stolen-count size) + stolen-count size ≡ size = omega arith in
+        let whole : (size - stolen-count size) + stolen-count size ≡ size = omega (arith, some-left size many) in
         rw (victim-tasks, length-walk (p .next) front size)
         (sym (drop-walk (p .next) front (size - stolen-count size) (stolen-count size))
         ∙ ap (λ (n : ℕ). drop (size - stolen-count size) (walk (p .next) front n)) whole)

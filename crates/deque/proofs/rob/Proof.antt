@@ -1,18 +1,17 @@
 -- `deque::rob` meets its contract: its steps are those of `Robbing`.
 use borrow.Author.Needs.{needs}
 use native.Mathlib.Omega.{arith}
-use Rattle.deque.proofs.Robbing.{two-tasks, part-of-the-way, both-put}
+use Rattle.deque.proofs.Robbing.{part-taken, part-of-the-way, both-put}
 use Rattle.deque.proofs.rob.Statement.{statement}
 use Rattle.deque.proofs.rob.Tie as tie
 
 deque-at-requires : tie.Need-deque-at-requires
 deque-at-requires c κs = search needs
 
-stolen-count-requires : tie.Need-stolen-count-requires
-stolen-count-requires c κs = two-tasks (c .before .before .pre) (c .deque-at .ensures)
-
 sub-left : tie.Need-sub-left
-sub-left c = search needs
+sub-left c =
+    let read = c .before .before in
+    part-taken (read .before .before .pre) (read .deque-at .ensures) (c .before .stolen-count .ensures)
 
 ahead-requires : tie.Need-ahead-requires
 ahead-requires c κs =
@@ -30,7 +29,7 @@ returns c =
     let walked = c .before .before .before .before in
     let counted = walked .before .before .before in
     let read = counted .before in
-    both-put (read .before .before .pre) (read .deque-at .ensures) (counted .stolen-count .ensures .0) (walked .ahead .ensures)
+    both-put (read .before .before .pre) (read .deque-at .ensures) (counted .stolen-count .ensures) (walked .ahead .ensures)
     (c .before .before .put .ensures) (c .put2 .ensures)
 
 pub rob-spec : {M : Type 1} → statement M
@@ -38,7 +37,7 @@ rob-spec =
     tie.close
     (tie.spec
     deque-at-requires
-    stolen-count-requires
+    (λ c κs. search needs)
     sub-left
     ahead-requires
     put-requires
