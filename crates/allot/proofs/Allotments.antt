@@ -30,7 +30,7 @@ module _ (words : List ℕ) (g waiting : ℕ) where
   numbers-stored : length words ≡ word-count → numbers-in (words-after words g waiting) ≡ numbers-after (numbers-in words) g waiting
   numbers-stored size =
       by-words (λ (l : List ℕ). numbers-in (words-after l g waiting) ≡ numbers-after (numbers-in l) g waiting)
-      (λ w0 w1 w2 w3 w4 w5 w6 w7 w8 w9 w10 w11 w12 w13 w14 w15 w16 w17. refl) words size
+      (λ w. refl) words size
 
   tail-stored : SameTail words (words-after words g waiting)
   tail-stored =

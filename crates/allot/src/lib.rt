@@ -2,16 +2,16 @@
 ghost use mathlib.Core.Path.{_≡_};
 ghost use Prim.Native.Nat.{_≤_};
 ghost use lib.ListN.{length};
-ghost use Rattle.memory.specs.Parts.{parts, SameButEnds};
+ghost use Rattle.memory.specs.Parts.{parts, parts-before, parts-after, SameButEnds};
 ghost use Rattle.allot.specs.Grants.{Joined, joining-deque, Joinable, joining-withdrawn, Withdrawable, Cleared, Grantable, Granted};
 use memory::Deque;
 
 // A worker's deque joins the end of the muggable ones; an empty one vanishes. How many wait then.
 fn join(memory: &mut [u16; 4352], head: usize, waiting: usize, worker: usize) -> usize
     requires { ⌜ Joinable (parts (now memory) .ends) head waiting worker ⌝ }
-    ensures joined { λ r. ⌜ Joined head (parts (now (memory .entry)) .ends) waiting (parts (now (memory .exit)) .ends) r
-        (joining-deque (parts (now (memory .entry)) .ends) worker) ⌝ }
-    ensures rest { λ _. ⌜ SameButEnds (parts (now (memory .entry))) (parts (now (memory .exit))) ⌝ }
+    ensures joined { λ r. ⌜ Joined head (parts-before memory .ends) waiting (parts-after memory .ends) r
+        (joining-deque (parts-before memory .ends) worker) ⌝ }
+    ensures rest { λ _. ⌜ SameButEnds (parts-before memory) (parts-after memory) ⌝ }
 {
     let deque = deque::deque_at(memory, worker);
     if deque.size == 0 {
@@ -31,9 +31,9 @@ fn withdraw(
     workers: usize,
 ) -> usize
     requires { ⌜ Withdrawable (parts (now memory) .ends) head waiting g workers ⌝ }
-    ensures joined { λ r. ⌜ Joined head (parts (now (memory .entry)) .ends) waiting (parts (now (memory .exit)) .ends) r
-        (joining-withdrawn (parts (now (memory .entry)) .ends) g workers) ⌝ }
-    ensures rest { λ _. ⌜ SameButEnds (parts (now (memory .entry))) (parts (now (memory .exit))) ⌝ }
+    ensures joined { λ r. ⌜ Joined head (parts-before memory .ends) waiting (parts-after memory .ends) r
+        (joining-withdrawn (parts-before memory .ends) g workers) ⌝ }
+    ensures rest { λ _. ⌜ SameButEnds (parts-before memory) (parts-after memory) ⌝ }
 {
     let mut joined = waiting;
     let mut worker = g;
@@ -47,8 +47,8 @@ fn withdraw(
 // "If g exceeds the last granted count, the new workers have empty lines."
 fn clear(memory: &mut [u16; 4352], workers: usize, g: usize)
     requires { ⌜ (length (parts (now memory) .ends) ≡ 256) × (g ≤ 64) ⌝ }
-    ensures cleared { λ _. ⌜ Cleared (parts (now (memory .entry)) .ends) workers g (parts (now (memory .exit)) .ends) ⌝ }
-    ensures rest { λ _. ⌜ SameButEnds (parts (now (memory .entry))) (parts (now (memory .exit))) ⌝ }
+    ensures cleared { λ _. ⌜ Cleared (parts-before memory .ends) workers g (parts-after memory .ends) ⌝ }
+    ensures rest { λ _. ⌜ SameButEnds (parts-before memory) (parts-after memory) ⌝ }
 {
     let mut worker = workers;
     while worker < g {

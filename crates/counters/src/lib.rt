@@ -4,9 +4,8 @@ ghost use mathlib.Core.Path.{_≡_};
 ghost use mathlib.Core.List.{_++_, _∷_, []};
 ghost use Prim.Native.Nat.{_+_, _≤_, _<_};
 ghost use lib.ListN.{length};
-ghost use Rattle.model.specs.Questions.{by-answer};
-ghost use Rattle.model.specs.Counters.{decimal, spaced, counters-answer, put-at-start};
-ghost use Rattle.counters.specs.Line.{numbers-of, line-answer, line-length};
+ghost use Rattle.model.specs.Counters.{decimal, spaced, put-at-start};
+ghost use Rattle.counters.specs.Line.{numbers-of, WritesLine};
 ghost use Rattle.counters.specs.Put.{pair, put, put-if-room, next-if-room};
 use status::Status;
 
@@ -170,10 +169,7 @@ pub fn numbers(counters: Counters) -> [u64; 10]
 
 // Writes the counters line at the start of a buffer of 128 bytes or more. Bytes after the line stay; a smaller buffer stays as it is.
 pub fn write_line(counters: Counters, buffer: &mut [u8]) -> LineAnswer
-    ensures answer { λ r. ⌜ line-answer r ≡ counters-answer (now (buffer .entry)) ⌝ }
-    ensures size { λ r. ⌜ line-length r ≡ by-answer (counters-answer (now (buffer .entry))) (length (spaced (numbers-of counters))) 0 ⌝ }
-    ensures bytes { λ _. ⌜ now (buffer .exit) ≡ by-answer (counters-answer (now (buffer .entry)))
-        (put-at-start (spaced (numbers-of counters)) (now (buffer .entry))) (now (buffer .entry)) ⌝ }
+    ensures { λ r. ⌜ WritesLine (spaced (numbers-of counters)) (now (buffer .entry)) (now (buffer .exit)) r ⌝ }
 {
     if buffer.len() < 128 {
         return LineAnswer::TooSmall;

@@ -1,7 +1,7 @@
 // "Work ticks, mug ticks and steal ticks are three counts, and no total of one kind takes a tick of another": one tuple struct each. The
-// fields are private, and what stands here is all that can be done with a count: none, one more, another of the same kind added, the number
-// to show, and the word that keeps it; the steal cycles of a tick are those of neither other kind. So adding one kind to another cannot be
-// written elsewhere.
+// fields are private, and what stands here is all that can be done with a count: none, one more, the number to show, and adding it to the
+// word that keeps its kind; the steal cycles of a tick are those of neither other kind. So adding one kind to another cannot be written
+// elsewhere.
 ghost use mathlib.Core.Path.{_≡_};
 ghost use Prim.Native.Nat.{_+_, _-_, _≤_, _<_, _^_};
 ghost use lib.ListN.{getD, set};
@@ -23,13 +23,6 @@ impl WorkCycles {
         WorkCycles(self.0 + 1)
     }
 
-    pub fn plus(self, more: WorkCycles) -> WorkCycles
-        requires { ⌜ self .0 + more .0 < 2 ^ 64 ⌝ }
-        ensures { λ r. ⌜ r ≡ record { 0 = self .0 + more .0 } ⌝ }
-    {
-        WorkCycles(self.0 + more.0)
-    }
-
     // The number to show.
     pub fn number(self) -> u64
         ensures { λ r. ⌜ r ≡ self .0 ⌝ }
@@ -37,18 +30,12 @@ impl WorkCycles {
         self.0
     }
 
-    // The count that a job's words keep.
-    pub fn kept(words: &[u64; 18]) -> WorkCycles
-        ensures { λ r. ⌜ r ≡ record { 0 = getD (now (words .entry)) 3 0 } ⌝ }
+    // The count is added to the word that keeps it.
+    pub fn add_to(self, words: &mut [u64; 18])
+        requires { ⌜ getD (now words) 3 0 + self .0 < 2 ^ 64 ⌝ }
+        ensures { λ _. ⌜ now (words .exit) ≡ set (now (words .entry)) 3 (getD (now (words .entry)) 3 0 + self .0) ⌝ }
     {
-        WorkCycles(words[3])
-    }
-
-    // The count goes into the word that keeps it.
-    pub fn keep(self, words: &mut [u64; 18])
-        ensures { λ _. ⌜ now (words .exit) ≡ set (now (words .entry)) 3 (self .0) ⌝ }
-    {
-        words[3] = self.0;
+        words[3] = words[3] + self.0;
     }
 }
 
@@ -69,13 +56,6 @@ impl MugCycles {
         MugCycles(self.0 + 1)
     }
 
-    pub fn plus(self, more: MugCycles) -> MugCycles
-        requires { ⌜ self .0 + more .0 < 2 ^ 64 ⌝ }
-        ensures { λ r. ⌜ r ≡ record { 0 = self .0 + more .0 } ⌝ }
-    {
-        MugCycles(self.0 + more.0)
-    }
-
     // The number to show.
     pub fn number(self) -> u64
         ensures { λ r. ⌜ r ≡ self .0 ⌝ }
@@ -83,18 +63,12 @@ impl MugCycles {
         self.0
     }
 
-    // The count that a job's words keep.
-    pub fn kept(words: &[u64; 18]) -> MugCycles
-        ensures { λ r. ⌜ r ≡ record { 0 = getD (now (words .entry)) 4 0 } ⌝ }
+    // The count is added to the word that keeps it.
+    pub fn add_to(self, words: &mut [u64; 18])
+        requires { ⌜ getD (now words) 4 0 + self .0 < 2 ^ 64 ⌝ }
+        ensures { λ _. ⌜ now (words .exit) ≡ set (now (words .entry)) 4 (getD (now (words .entry)) 4 0 + self .0) ⌝ }
     {
-        MugCycles(words[4])
-    }
-
-    // The count goes into the word that keeps it.
-    pub fn keep(self, words: &mut [u64; 18])
-        ensures { λ _. ⌜ now (words .exit) ≡ set (now (words .entry)) 4 (self .0) ⌝ }
-    {
-        words[4] = self.0;
+        words[4] = words[4] + self.0;
     }
 }
 
@@ -102,20 +76,6 @@ impl MugCycles {
 pub struct StealCycles(u64);
 
 impl StealCycles {
-    pub fn plus(self, more: StealCycles) -> StealCycles
-        requires { ⌜ self .0 + more .0 < 2 ^ 64 ⌝ }
-        ensures { λ r. ⌜ r ≡ record { 0 = self .0 + more .0 } ⌝ }
-    {
-        StealCycles(self.0 + more.0)
-    }
-
-    // The number to show.
-    pub fn number(self) -> u64
-        ensures { λ r. ⌜ r ≡ self .0 ⌝ }
-    {
-        self.0
-    }
-
     // Of so many cycles those that are neither work nor mug cycles: a cycle is one of the three.
     pub fn others(cycles: u64, works: WorkCycles, mugs: MugCycles) -> StealCycles
         requires { ⌜ works .0 + mugs .0 ≤ cycles ⌝ }
@@ -124,18 +84,12 @@ impl StealCycles {
         StealCycles(cycles - (works.0 + mugs.0))
     }
 
-    // The count that a job's words keep.
-    pub fn kept(words: &[u64; 18]) -> StealCycles
-        ensures { λ r. ⌜ r ≡ record { 0 = getD (now (words .entry)) 5 0 } ⌝ }
+    // The count is added to the word that keeps it.
+    pub fn add_to(self, words: &mut [u64; 18])
+        requires { ⌜ getD (now words) 5 0 + self .0 < 2 ^ 64 ⌝ }
+        ensures { λ _. ⌜ now (words .exit) ≡ set (now (words .entry)) 5 (getD (now (words .entry)) 5 0 + self .0) ⌝ }
     {
-        StealCycles(words[5])
-    }
-
-    // The count goes into the word that keeps it.
-    pub fn keep(self, words: &mut [u64; 18])
-        ensures { λ _. ⌜ now (words .exit) ≡ set (now (words .entry)) 5 (self .0) ⌝ }
-    {
-        words[5] = self.0;
+        words[5] = words[5] + self.0;
     }
 }
 

@@ -8,7 +8,7 @@ use native.Mathlib.Omega.{arith}
 use Rattle.model.specs.Tests.{below}
 use Rattle.model.specs.Questions.{Question, Answer, accepted, refused, ask, first-no, answer-number}
 use Rattle.model.specs.Plan.{Graph, plan-of, task-count, header-questions, task-questions, graph-questions, plan-questions, plan-answer}
-use Rattle.plan.proofs.Asked.{and-then, first-no-append}
+use Rattle.lists.proofs.Questions.{and-then, first-no-append}
 
 -- the number 0 is acceptance
 abbrev Telling : Answer → Type 0

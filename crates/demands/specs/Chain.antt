@@ -20,7 +20,7 @@ pub data Chain (bytes : List ℕ) : List Call → Job → Type 0 where
   calls-next : {calls : List Call} {call : Call} {job job′ : Job} → Chain bytes calls job → Moves call job job′ →
       Chain bytes (calls ++ call ∷ []) job′
   -- a log was run on the job at hand: the calls of its whole entries
-  log-next : {calls : List Call} {log : List ℕ} {job job′ : Job} → Chain bytes calls job → Runs log job job′ →
+  log-next : {calls : List Call} {log : List ℕ} {refusals : ℕ} {job job′ : Job} → Chain bytes calls job → Runs log job refusals job′ →
       Chain bytes (calls ++ entries log .calls) job′
   -- other bytes were handed over with the job at hand, and refused: the job goes on
   refuses-next : {calls : List Call} {others : List ℕ} {job job′ : Job} (n : ℕ) → Chain bytes calls job → Accepts others job job′ →

@@ -3,7 +3,7 @@
 ghost use mathlib.Core.Path.{_≡_};
 ghost use Prim.Native.Nat.{_≤_, _<_};
 ghost use Rattle.model.specs.Machine.{stolen-count};
-ghost use Rattle.memory.specs.Parts.{parts};
+ghost use Rattle.memory.specs.Parts.{parts, parts-before, parts-after};
 ghost use Rattle.memory.specs.View.{ends-at, put-part};
 ghost use Rattle.deque.specs.Links.{link-after, Reachable, Robbable, robbed};
 ghost use Rattle.deque.specs.Releasing.{Releasable, Released, AllReleasable, AllReleased};
@@ -19,7 +19,7 @@ pub fn wide(x: u16) -> usize
 // The deque at a place.
 pub fn deque_at(memory: &[u16; 4352], place: usize) -> Deque
     requires { ⌜ place < 128 ⌝ }
-    ensures { λ r. ⌜ r ≡ ends-at (parts (now (memory .entry)) .ends) place ⌝ }
+    ensures { λ r. ⌜ r ≡ ends-at (parts-before memory .ends) place ⌝ }
 {
     let front_at = 4096 + 2 * place;
     let size_at = 4096 + (2 * place + 1);
@@ -32,7 +32,7 @@ pub fn deque_at(memory: &[u16; 4352], place: usize) -> Deque
 // A deque is put at a place.
 pub fn put(memory: &mut [u16; 4352], place: usize, deque: Deque)
     requires { ⌜ place < 128 ⌝ }
-    ensures { λ _. ⌜ parts (now (memory .exit)) ≡ put-part (parts (now (memory .entry))) place deque ⌝ }
+    ensures { λ _. ⌜ parts-after memory ≡ put-part (parts-before memory) place deque ⌝ }
 {
     let front_at = 4096 + 2 * place;
     let size_at = 4096 + (2 * place + 1);
@@ -43,8 +43,8 @@ pub fn put(memory: &mut [u16; 4352], place: usize, deque: Deque)
 // The deque at one place becomes that of another, whole.
 pub fn hand_over(memory: &mut [u16; 4352], from: usize, to: usize)
     requires { ⌜ (from < 128) × (to < 128) ⌝ }
-    ensures { λ _. ⌜ parts (now (memory .exit)) ≡
-        put-part (parts (now (memory .entry))) to (ends-at (parts (now (memory .entry)) .ends) from) ⌝ }
+    ensures { λ _. ⌜ parts-after memory ≡
+        put-part (parts-before memory) to (ends-at (parts-before memory .ends) from) ⌝ }
 {
     let deque = deque_at(memory, from);
     put(memory, to, deque);
@@ -53,7 +53,7 @@ pub fn hand_over(memory: &mut [u16; 4352], from: usize, to: usize)
 // The task that so many links lead to.
 pub fn ahead(memory: &[u16; 4352], front: u16, steps: u16) -> u16
     requires { ⌜ Reachable (parts (now memory) .next) front steps ⌝ }
-    ensures { λ r. ⌜ r ≡ link-after (parts (now (memory .entry)) .next) front steps ⌝ }
+    ensures { λ r. ⌜ r ≡ link-after (parts-before memory .next) front steps ⌝ }
 {
     let mut task = front;
     let mut left = steps;
@@ -75,7 +75,7 @@ fn stolen_count(size: u16) -> u16
 // The back part of the victim's deque becomes the thief's.
 pub fn rob(memory: &mut [u16; 4352], thief: usize, victim: usize)
     requires { ⌜ Robbable (parts (now memory)) thief victim ⌝ }
-    ensures { λ _. ⌜ parts (now (memory .exit)) ≡ robbed (parts (now (memory .entry))) thief victim ⌝ }
+    ensures { λ _. ⌜ parts-after memory ≡ robbed (parts-before memory) thief victim ⌝ }
 {
     let deque = deque_at(memory, victim);
     let taken = stolen_count(deque.size);
@@ -96,7 +96,7 @@ pub fn rob(memory: &mut [u16; 4352], thief: usize, victim: usize)
 // 0, is no task. A deque that stays is made anew from its parts: as a whole it would travel packed in one word.
 pub fn release(memory: &mut [u16; 4352], task: u16, deque: Deque) -> Deque
     requires { ⌜ Releasable (parts (now memory)) task deque ⌝ }
-    ensures { λ r. ⌜ Released (parts (now (memory .entry))) task deque (parts (now (memory .exit))) r ⌝ }
+    ensures { λ r. ⌜ Released (parts-before memory) task deque (parts-after memory) r ⌝ }
 {
     let at = wide(task);
     if at == 0 {
@@ -126,7 +126,7 @@ pub fn release(memory: &mut [u16; 4352], task: u16, deque: Deque) -> Deque
 // first before it.
 pub fn release_successors(memory: &mut [u16; 4352], one: u16, two: u16, deque: Deque) -> Deque
     requires { ⌜ AllReleasable (parts (now memory)) one two deque ⌝ }
-    ensures { λ r. ⌜ AllReleased (parts (now (memory .entry))) one two deque (parts (now (memory .exit))) r ⌝ }
+    ensures { λ r. ⌜ AllReleased (parts-before memory) one two deque (parts-after memory) r ⌝ }
 {
     if one == 0 {
         return Deque {

@@ -28,7 +28,7 @@ use Rattle.memory.specs.Jobs.{lent, job-plan, job-state}
 use Rattle.lists.proofs.Tables.{table-length, table-at}
 use Rattle.memory.proofs.Views.{tasks-shown}
 use Rattle.plan.specs.Headings.{plan-view}
-use Rattle.plan.specs.Answers.{answer-of, passes}
+use Rattle.plan_fields.specs.Answers.{answer-of, passes}
 use Rattle.plan.specs.Promise.{Holds, RightHeading}
 use Rattle.plan.specs.declared.Heading.{Heading}
 use Rattle.plan.proofs.Sound.{accepted-sound}

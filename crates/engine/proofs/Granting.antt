@@ -21,45 +21,14 @@ use Rattle.memory.specs.View.{view}
 use Rattle.memory.specs.Sound.{Kept}
 use Rattle.memory.specs.Jobs.{lent, job-plan, job-state}
 use Rattle.memory.proofs.Views.{workers-shown}
-use Rattle.memory.proofs.Words.{by-words}
+use Rattle.clock.specs.Clock.{Openable, Opened}
 use Rattle.allot.specs.Grants.{Grantable, Granted}
-use Rattle.engine.specs.Asked.{grant-asked}
-use Rattle.engine.specs.Ending.{opened-words}
+use Rattle.call_questions.specs.Asked.{grant-asked}
 use Rattle.engine.specs.Reached.{Reached}
 use Rattle.engine.specs.Moves.{Moves}
-use Rattle.engine.proofs.Asking.{grant-asking}
+use Rattle.call_questions.proofs.Asking.{grant-asking}
 use Rattle.engine.proofs.Known.{known-arranged, known-measured, words-fit}
 use Rattle.engine.proofs.Moving.{plan-stays, accepted-moves}
-
--- ---- the quantum's opening
-
--- a quantum opened, and the words with it; the flag says that nothing is granted
-abbrev opened-state : Bool → Execution → Bool → ℕ → ℕ → State
-opened-state nothing e started desire begun =
-    record { execution = e; started = cond nothing started true; desire = desire; quantum = opened 0; begun = suc begun }
-
-abbrev begun-words : List ℕ → List ℕ
-begun-words words = set (set (set words 15 1) 16 0) 17 (begun-in words + 1)
-
--- what the opening shows and leaves
-record Opening (nothing : Bool) (words words′ : List ℕ) : Type 0 where
-  shows : (memory : List ℕ) → job-state (lent memory words′)
-      ≡ opened-state nothing (view (parts memory) (numbers-in words)) (started-in words) (desire-in words) (begun-in words)
-  leaves-plan : (memory : List ℕ) → job-plan (lent memory words′) ≡ job-plan (lent memory words)
-  same-numbers : numbers-in words′ ≡ numbers-in words
-  same-size : length words′ ≡ length words
-
-opening : (nothing : Bool) (words : List ℕ) → length words ≡ word-count →
-    Opening nothing words (cond nothing (begun-words words) (set (begun-words words) 14 1))
-unfolding job-state job-plan
-opening true =
-    by-words (λ (l : List ℕ). Opening true l (begun-words l))
-    (λ w0 w1 w2 w3 w4 w5 w6 w7 w8 w9 w10 w11 w12 w13 w14 w15 w16 w17.
-    record { shows = λ memory. rw add-one refl; leaves-plan = λ memory. refl; same-numbers = refl; same-size = refl })
-opening false =
-    by-words (λ (l : List ℕ). Opening false l (set (begun-words l) 14 1))
-    (λ w0 w1 w2 w3 w4 w5 w6 w7 w8 w9 w10 w11 w12 w13 w14 w15 w16 w17.
-    record { shows = λ memory. rw add-one refl; leaves-plan = λ memory. refl; same-numbers = refl; same-size = refl })
 
 -- ---- an accepted grant
 
@@ -93,26 +62,14 @@ module _ {plan : Plan} {calls : List Call} {memory words : List ℕ} (g : ℕ) (
     same-tasks : numbers-in words₁ .tasks ≡ numbers-in words .tasks
     same-tasks = ap (λ (m : Numbers). m .tasks) (granted .numbers)
 
-    -- more quanta may begin
-    pub begun-fits : begun-in words₁ < quantum-limit
+    -- one quantum more may begin
+    pub openable : Openable words₁
     unfolding job-state
-    begun-fits = rw (granted .tail .same-from 17 (omega arith)) (facts .more-quanta)
-
-    opened-as : Opening (eqb g 0) words₁ (opened-words words₁ g)
-    opened-as = opening (eqb g 0) words₁ (granted .tail .same-length ∙ r .words-sized)
-
-    granted-stepped : job-state (lent memory′ (opened-words words₁ g)) ≡ step (job-plan job) (grants g) (job-state job)
-    unfolding step job-state machine.grant
-    granted-stepped =
-        opened-as .shows memory′
-        ∙ rw (
-          grant-is-accepted,
-          granted .tail .same-from 13 (omega arith),
-          granted .tail .same-from 14 (omega arith),
-          granted .tail .same-from 17 (omega arith),
-          granted .shown (job-state job) refl refl,
-        )
-        refl
+    openable =
+        record {
+          size = granted .tail .same-length ∙ r .words-sized;
+          more = rw (granted .tail .same-from 17 (omega arith)) (facts .more-quanta);
+        }
 
     granted-kept : Kept (graph (parts memory′) (numbers-in words₁ .tasks)) (parts memory′) (numbers-in words₁)
     granted-kept =
@@ -123,19 +80,34 @@ module _ {plan : Plan} {calls : List Call} {memory words : List ℕ} (g : ℕ) (
           head-in-ring = rw (ap (λ (m : Numbers). m .head) (granted .numbers)) (r .kept .head-in-ring);
         }
 
-    pub granted-moves : Moves (grants g) job (lent memory′ (opened-words words₁ g))
-    granted-moves =
-        let same = granted .same-parts in
-        accepted-moves (grants g) grant-is-accepted granted-stepped
-        (opened-as .leaves-plan memory′
-        ∙ plan-stays memory words memory′ words₁ (granted .tail) same-tasks
-        (record { same-first = same .same-first; same-second = same .same-second }))
-        (record {
-          firsts = rw (same .same-first) (r .parts-sized .firsts);
-          seconds = rw (same .same-second) (r .parts-sized .seconds);
-          links = rw (same .same-next) (r .parts-sized .links);
-          numbers = rw (same .same-pending) (r .parts-sized .numbers);
-          places = granted .places;
-        })
-        (opened-as .same-size ∙ granted .tail .same-length ∙ r .words-sized)
-        (subst (λ (m : Numbers). Kept (graph (parts memory′) (m .tasks)) (parts memory′) m) (sym (opened-as .same-numbers)) granted-kept)
+    -- and began, with these words
+    module _ {words₂ : List ℕ} (began : Opened words₁ g words₂) where
+      granted-stepped : job-state (lent memory′ words₂) ≡ step (job-plan job) (grants g) (job-state job)
+      unfolding step job-state machine.grant
+      granted-stepped =
+          began .shows memory′
+          ∙ rw (
+            grant-is-accepted,
+            granted .tail .same-from 13 (omega arith),
+            granted .tail .same-from 14 (omega arith),
+            granted .tail .same-from 17 (omega arith),
+            granted .shown (job-state job) refl refl,
+          )
+          refl
+
+      pub granted-moves : Moves (grants g) job (lent memory′ words₂)
+      granted-moves =
+          let same = granted .same-parts in
+          accepted-moves (grants g) grant-is-accepted granted-stepped
+          (began .same-plan memory′
+          ∙ plan-stays memory words memory′ words₁ (granted .tail) same-tasks
+          (record { same-first = same .same-first; same-second = same .same-second }))
+          (record {
+            firsts = rw (same .same-first) (r .parts-sized .firsts);
+            seconds = rw (same .same-second) (r .parts-sized .seconds);
+            links = rw (same .same-next) (r .parts-sized .links);
+            numbers = rw (same .same-pending) (r .parts-sized .numbers);
+            places = granted .places;
+          })
+          (began .same-size ∙ granted .tail .same-length ∙ r .words-sized)
+          (subst (λ (m : Numbers). Kept (graph (parts memory′) (m .tasks)) (parts memory′) m) (sym (began .same-numbers)) granted-kept)

@@ -15,11 +15,11 @@ use Rattle.memory.specs.Words.{word-count, numbers-in, SameTail}
 use Rattle.memory.specs.Graphs.{graph}
 use Rattle.memory.specs.Sound.{Sizes, Kept}
 use Rattle.memory.specs.Jobs.{lent, job-parts, job-numbers, job-plan, job-state}
-use Rattle.engine.specs.declared.CallAnswer.{CallAnswer}
-use Rattle.engine.specs.Answers.{answer-of}
+use Rattle.call_questions.specs.declared.CallAnswer.{CallAnswer}
+use Rattle.call_questions.specs.Answers.{answer-of}
 use Rattle.engine.specs.Reached.{Reached}
 use Rattle.engine.specs.Moves.{Moves}
-use Rattle.engine.proofs.Answers.{IsRefusal}
+use Rattle.call_questions.proofs.Answers.{IsRefusal}
 
 -- what was accepted was not refused
 pub not-both : {a : Answer} (n : ℕ) → a ≡ accepted → a ≡ refused n → ⊥

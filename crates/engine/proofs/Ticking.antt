@@ -18,16 +18,17 @@ use Rattle.memory.specs.Parts.{parts, SameGraph}
 use Rattle.memory.specs.Words.{Numbers, numbers-in, terms-in, open-in, ticks-in, SameTail}
 use Rattle.memory.specs.Graphs.{graph}
 use Rattle.memory.specs.View.{view}
-use Rattle.memory.specs.Sound.{Sizes, Kept, Sound, Room}
+use Rattle.memory.specs.Sound.{Sizes, Kept, Sound}
+use Rattle.memory.specs.Cycles.{count-limit, Room}
 use Rattle.memory.specs.Jobs.{lent, quantum-view, job-plan, job-state}
-use Rattle.memory.proofs.Views.{workers-shown}
+use Rattle.memory.proofs.Views.{workers-shown, finished-shown}
 use Rattle.memory.proofs.Words.{same-tail}
-use Rattle.turn.specs.Turns.{count-limit, TickTurn, Ticked}
-use Rattle.engine.specs.Asked.{tick-asked}
-use Rattle.engine.specs.Ending.{tick-counted, quantum-ended, Countable, TickEnded}
+use Rattle.turn.specs.Turns.{TickTurn, Ticked}
+use Rattle.call_questions.specs.Asked.{tick-asked}
+use Rattle.clock.specs.Clock.{tick-counted, quantum-ended, Countable, TickEnded}
 use Rattle.engine.specs.Reached.{Reached}
 use Rattle.engine.specs.Moves.{Moves}
-use Rattle.engine.proofs.Asking.{finished-shown, tick-asking}
+use Rattle.call_questions.proofs.Asking.{tick-asking}
 use Rattle.engine.proofs.Known.{known-sound, known-bounds, known-arranged, known-measured, known-numbers, known-power, words-fit}
 use Rattle.engine.proofs.Moving.{plan-stays, accepted-moves}
 

@@ -3,18 +3,16 @@
 use mathlib.Core.Path.{_≡_, ap, _∙_}
 use mathlib.Core.List.{List}
 use Prim.Native.Nat.{ℕ}
-use lib.ListN.{length}
-use Rattle.model.specs.Questions.{answer-number, by-answer}
+use Rattle.model.specs.Questions.{answer-number}
 use Rattle.model.specs.Label.{Stretch, label, label-answer}
-use Rattle.model.specs.Counters.{spaced, counters-answer, put-at-start}
+use Rattle.model.specs.Counters.{spaced, buffer-after}
 use Rattle.label.specs.declared.Found.{Found}
 use Rattle.label.specs.Found.{found-answer, found-stretch}
 use Rattle.counters.specs.declared.Counters.{Counters}
 use Rattle.counters.specs.declared.LineAnswer.{LineAnswer}
-use Rattle.counters.specs.Line.{numbers-of, line-answer, line-length}
-use Rattle.counters.proofs.Line.{model-buffer}
+use Rattle.counters.specs.Line.{numbers-of, line-answer, line-length, WritesLine}
+use Rattle.counters.proofs.Line.{model-line}
 use Rattle.report.specs.Shown.{CountersOf}
-use Rattle.report.proofs.Counted.{same-size}
 use Rattle.exports.specs.Promises.{ShowsStatus, ShowsLine, ShowsWording}
 
 -- what looking for the status's line found
@@ -32,14 +30,12 @@ wording-shown words sheet number found shown answered stretch =
     }
 
 -- what writing the line answered
-pub line-shown : {words : List ℕ} {refusals : ℕ} {k : Counters} → CountersOf words refusals k →
-    (buffer buffer′ : List ℕ) (answer : LineAnswer) → line-answer answer ≡ counters-answer buffer →
-    line-length answer ≡ by-answer (counters-answer buffer) (length (spaced (numbers-of k))) 0 →
-    buffer′ ≡ by-answer (counters-answer buffer) (put-at-start (spaced (numbers-of k)) buffer) buffer →
+pub line-shown : {words : List ℕ} {refusals : ℕ} {k : Counters} → CountersOf words refusals k → {buffer buffer′ : List ℕ}
+    {answer : LineAnswer} → WritesLine (spaced (numbers-of k)) buffer buffer′ answer →
     ShowsLine words refusals buffer buffer′ (line-length answer) (answer-number (line-answer answer))
-line-shown shown buffer buffer′ answer answered sized written =
+unfolding buffer-after
+line-shown shown written =
     record {
-      answered = ap answer-number answered;
-      right = λ memory job.
-          let same = shown .right memory job in (sized ∙ same-size _ buffer _ _ _ same, written ∙ model-buffer _ _ _ _ buffer same);
+      answered = ap answer-number (written .answered);
+      right = λ memory job. let its-line = model-line _ _ _ _ (shown .right memory job) written in (its-line .sized, its-line .bytes);
     }

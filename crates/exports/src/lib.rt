@@ -4,7 +4,7 @@ ghost use mathlib.Core.Path.{_≡_};
 ghost use Rattle.model.specs.Questions.{answer-number};
 ghost use Rattle.model.specs.Plan.{plan-answer};
 ghost use Rattle.model.specs.Machine.{grants, ticks};
-ghost use Rattle.memory.specs.Jobs.{job};
+ghost use Rattle.memory.specs.Jobs.{job, job-before, job-after};
 ghost use Rattle.engine.specs.Reached.{IsJob, JobWords};
 ghost use Rattle.engine.specs.Moves.{Accepts, Moves};
 ghost use Rattle.exports.specs.Promises.{call-number, ShowsStatus, ShowsCounters, ShowsLine, ShowsWording};
@@ -19,10 +19,10 @@ pub extern "C" fn jirvaldo_core_accept(
     words: &mut [u64; 18],
 ) -> u8
     ensures answered { λ r. ⌜ r ≡ answer-number (plan-answer (now (plan .entry))) ⌝ }
-    ensures accepts { λ _. ⌜ Accepts (now (plan .entry)) (job (memory .entry) (words .entry)) (job (memory .exit) (words .exit)) ⌝ }
+    ensures accepts { λ _. ⌜ Accepts (now (plan .entry)) (job-before memory words) (job-after memory words) ⌝ }
 {
     let answer = engine::accept(plan, memory, words);
-    plan::number(answer)
+    plan_fields::number(answer)
 }
 
 // A grant of any number of workers. Refused, the memory stays as it came.
@@ -33,11 +33,11 @@ pub extern "C" fn jirvaldo_core_grant(
     workers: u64,
 ) -> u8
     requires { ⌜ IsJob (job memory words) ⌝ }
-    ensures answered { λ r. ⌜ r ≡ call-number (grants workers) (job (memory .entry) (words .entry)) ⌝ }
-    ensures moves { λ _. ⌜ Moves (grants workers) (job (memory .entry) (words .entry)) (job (memory .exit) (words .exit)) ⌝ }
+    ensures answered { λ r. ⌜ r ≡ call-number (grants workers) (job-before memory words) ⌝ }
+    ensures moves { λ _. ⌜ Moves (grants workers) (job-before memory words) (job-after memory words) ⌝ }
 {
     let answer = engine::grant(memory, words, workers);
-    engine::number(answer)
+    call_questions::number(answer)
 }
 
 // A tick with a choice for each granted worker. Refused, the memory stays as it came.
@@ -48,11 +48,11 @@ pub extern "C" fn jirvaldo_core_tick(
     choices: &[u8],
 ) -> u8
     requires { ⌜ IsJob (job memory words) ⌝ }
-    ensures answered { λ r. ⌜ r ≡ call-number (ticks (now (choices .entry))) (job (memory .entry) (words .entry)) ⌝ }
-    ensures moves { λ _. ⌜ Moves (ticks (now (choices .entry))) (job (memory .entry) (words .entry)) (job (memory .exit) (words .exit)) ⌝ }
+    ensures answered { λ r. ⌜ r ≡ call-number (ticks (now (choices .entry))) (job-before memory words) ⌝ }
+    ensures moves { λ _. ⌜ Moves (ticks (now (choices .entry))) (job-before memory words) (job-after memory words) ⌝ }
 {
     let told = engine::tick(memory, words, choices);
-    engine::number(told)
+    call_questions::number(told)
 }
 
 // The status that the words show.

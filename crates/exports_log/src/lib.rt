@@ -3,9 +3,9 @@
 ghost use mathlib.Core.Path.{_≡_};
 ghost use Rattle.model.specs.Questions.{answer-number};
 ghost use Rattle.model.specs.Log.{log-answer};
-ghost use Rattle.memory.specs.Jobs.{job};
+ghost use Rattle.memory.specs.Jobs.{job, job-before, job-after};
 ghost use Rattle.engine.specs.Reached.{IsJob};
-ghost use Rattle.log.specs.Running.{log-answer-of, run-of, Runs};
+ghost use Rattle.log.specs.Running.{log-answer-of, Runs};
 use log::LogAnswer;
 
 // The number of a log's answer.
@@ -29,8 +29,7 @@ pub extern "C" fn jirvaldo_core_run_log(
 ) -> u8
     requires { ⌜ IsJob (job memory words) ⌝ }
     ensures answered { λ r. ⌜ r ≡ answer-number (log-answer (now (log .entry))) ⌝ }
-    ensures counted { λ _. ⌜ now (refusals .exit) ≡ run-of (now (log .entry)) (job (memory .entry) (words .entry)) .refusals ⌝ }
-    ensures runs { λ _. ⌜ Runs (now (log .entry)) (job (memory .entry) (words .entry)) (job (memory .exit) (words .exit)) ⌝ }
+    ensures runs { λ _. ⌜ Runs (now (log .entry)) (job-before memory words) (now (refusals .exit)) (job-after memory words) ⌝ }
 {
     let answer = log::run(memory, words, log, refusals);
     log_number(answer)

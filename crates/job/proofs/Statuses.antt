@@ -8,9 +8,8 @@ use Rattle.model.specs.Machine.{status}
 use Rattle.memory.specs.Parts.{parts}
 use Rattle.memory.specs.Words.{word, numbers-in}
 use Rattle.memory.specs.Jobs.{lent, job-state}
-use Rattle.memory.proofs.Views.{workers-shown}
+use Rattle.memory.proofs.Views.{workers-shown, finished-shown}
 use Rattle.engine.specs.Reached.{IsJob}
-use Rattle.engine.proofs.Asking.{finished-shown}
 use Rattle.status.specs.declared.Status.{Status}
 use Rattle.status.specs.Number.{status-number}
 use Rattle.job.specs.Status.{shown-status, StatusOf}

@@ -3,17 +3,17 @@
 ghost use mathlib.Core.Path.{_≡_};
 ghost use Rattle.model.specs.Plan.{plan-answer};
 ghost use Rattle.model.specs.Machine.{grants, ticks, call-answer, status};
-ghost use Rattle.plan.specs.Answers.{answer-of as plan-answer-of};
+ghost use Rattle.plan_fields.specs.Answers.{answer-of as plan-answer-of};
 ghost use Rattle.memory.specs.Jobs.{job-state};
-ghost use Rattle.engine.specs.Answers.{answer-of};
+ghost use Rattle.call_questions.specs.Answers.{answer-of};
 ghost use Rattle.engine.specs.Reached.{IsJob, JobWords};
 ghost use Rattle.engine.specs.Moves.{Accepts, Moves};
 ghost use Rattle.status.specs.Number.{status-number};
 ghost use Rattle.job.specs.Blank.{blank-job};
 ghost use Rattle.job.specs.Status.{shown-status, StatusOf};
-use engine::CallAnswer;
+use call_questions::CallAnswer;
 use memory::Job;
-use plan::PlanAnswer;
+use plan_fields::PlanAnswer;
 use status::Status;
 
 // The answer, and the record where it is Accepted. On a refusal there is no record: what stands there is the blank.

@@ -2,7 +2,7 @@
 // examples 3 and 4; the rest is run, and what it prints, lines and wordings, is compared.
 ghost use Rattle.engine.specs.Reached.{IsJob};
 use counters::LineAnswer;
-use log::Entry;
+use log_reader::Entry;
 use memory::Job;
 
 const PLAN_A: [u8; 17] = [21, 64, 0, 8, 3, 128, 8, 2, 64, 24, 0, 64, 24, 0, 0, 0, 0];
@@ -46,9 +46,9 @@ fn played(job: Job, log: &[u8]) -> Job
     ensures { λ r. ⌜ IsJob r ⌝ }
 {
     let mut now_job = job;
-    let mut at = log::first_place(log);
+    let mut at = log_reader::first_place(log);
     loop {
-        match log::read_entry(log, at) {
+        match log_reader::read_entry(log, at) {
             Entry::Grant(g) => {
                 let called = job::grant(now_job, g as u64);
                 now_job = called.job;
@@ -102,7 +102,7 @@ fn example(bytes: &[u8], log: &[u8], sheet: &[u8]) {
     let acceptance = job::accept(bytes);
     let answer = acceptance.answer;
     let job = acceptance.job;
-    if plan::passed(answer) {
+    if plan_fields::passed(answer) {
         let last = played(job, log);
         show_line(last);
         show_wording(last, sheet);
@@ -113,11 +113,11 @@ fn example(bytes: &[u8], log: &[u8], sheet: &[u8]) {
 fn contracts_alone() {
     let acceptance = job::accept(&PLAN_A);
     let answer = acceptance.answer;
-    check::expect(plan::passed(answer));
+    check::expect(plan_fields::passed(answer));
     let job = acceptance.job;
     let called = job::grant(job, 2);
     let refusal = called.answer;
-    check::expect(engine::number(refusal) == 14);
+    check::expect(call_questions::number(refusal) == 14);
     let same = called.job;
     let status = job::job_status(same);
     check::expect(status::number_of(status) == 0);

@@ -1,12 +1,11 @@
 // The label of a status: the stretch of the lent label sheet (document 01: wording sheet) itself, without byte 10.
 // Document 01, "Day log and label"; the definitions are model's specs/Label.antt.
 ghost use mathlib.Core.Path.{_≡_};
-ghost use denote.Ref.{ptr};
 ghost use Prim.Native.Nat.{_+_, _≤_};
 ghost use lib.ListN.{length};
-ghost use Rattle.model.specs.Questions.{answer-number};
-ghost use Rattle.model.specs.Label.{label, label-answer, bytes-of};
+ghost use Rattle.model.specs.Label.{label, label-answer};
 ghost use Rattle.label.specs.Found.{found-answer, found-stretch};
+ghost use Rattle.label.specs.Wording.{IsWording};
 ghost use Rattle.label.specs.Ends.{ByteCounted, Passed, LineEnd};
 
 // What looking for a status's line gives. specs/Found.antt gives document 01's number and stretch for each case.
@@ -120,9 +119,7 @@ pub fn find(sheet: &[u8], status: u8) -> Found
 // The wording of a status: the line's bytes where they stand in the sheet, with 0 behind `refusal`. Where the sheet has no such
 // line, an empty part with 19 behind it.
 pub fn wording<'a>(sheet: &'a [u8], status: u8, refusal: &mut u8) -> &'a [u8]
-    ensures bytes { λ r. ⌜ now r ≡ bytes-of (now (sheet .entry)) (label (now (sheet .entry)) status) ⌝ }
-    ensures place { λ r. ⌜ ptr r ≡ (ptr (sheet .entry) .0, ptr (sheet .entry) .1 + label (now (sheet .entry)) status .start) ⌝ }
-    ensures number { λ _. ⌜ now (refusal .exit) ≡ answer-number (label-answer (now (sheet .entry)) status) ⌝ }
+    ensures { λ r. ⌜ IsWording (sheet .entry) status r (now (refusal .exit)) ⌝ }
 {
     let found = find(sheet, status);
     let Found::At(start, size) = found else {

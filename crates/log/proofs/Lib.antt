@@ -1,8 +1,3 @@
--- Laws of the log. Entries: the entry at a place is the first of model's entries from there on. Readers: reading on from reader to reader
--- gives model's entries. Running: running entry after entry. Unaccepted: where a run leaves everything as it was. Held: what a log and a
--- reader own.
-pub mod Entries
-pub mod Readers
+-- Running: running entry after entry. Unaccepted: where a run leaves everything as it was.
 pub mod Running
 pub mod Unaccepted
-pub mod Held

@@ -16,7 +16,7 @@ use Rattle.memory.specs.Jobs.{job-plan, job-state}
 use Rattle.engine.specs.Reached.{Reached, IsJob}
 use Rattle.engine.specs.Moves.{Moves}
 use Rattle.log.specs.declared.LogAnswer.{LogAnswer}
-use Rattle.log.specs.Running.{log-answer-of, run-of, Runs}
+use Rattle.log.specs.Running.{log-answer-of, Runs}
 
 -- ---- model's run of one call more
 
@@ -120,7 +120,7 @@ module _ (log : List ℕ) (job₀ : Job) where
     -- the log ends here, with a broken entry or without
     pub ends-here : (broken : Bool) (answer : LogAnswer) → entries (drop at log) ≡ record { calls = []; broken = broken } →
         log-answer-of answer ≡ cond broken (refused 18) accepted →
-        (log-answer-of answer ≡ log-answer log) × ((count ≡ run-of log job₀ .refusals) × Runs log job₀ job)
+        (log-answer-of answer ≡ log-answer log) × Runs log job₀ count job
     unfolding run-log log-answer
     ends-here broken answer here number =
         let all : entries log .calls ≡ so-far .done =
@@ -128,14 +128,11 @@ module _ (log : List ℕ) (job₀ : Job) where
         in
         let ran = ap (λ done. run-calls (job-plan job₀) done before) all ∙ so-far .ran in (
           number ∙ ap (λ b. cond b (refused 18) accepted) (sym (so-far .broken-left ∙ ap (λ (e : Entries). e .broken) here)),
-          (
-            sym (ap (λ (r : Ran). r .refusals) ran),
-            record {
-              state-after = sym (ap (λ (r : Ran). r .state) ran);
-              same-plan = so-far .plan-so-far;
-              reached = λ plan calls r. rw all (so-far .reached-so-far plan calls r);
-              untouched =
-                  λ refusals. so-far .untouched-so-far (sym (ap (λ (r : Ran). r .refusals) ran) ∙ refusals ∙ ap length all);
-            },
-          ),
+          record {
+            counted = sym (ap (λ (r : Ran). r .refusals) ran);
+            state-after = sym (ap (λ (r : Ran). r .state) ran);
+            same-plan = so-far .plan-so-far;
+            reached = λ plan calls r. rw all (so-far .reached-so-far plan calls r);
+            untouched = λ refusals. so-far .untouched-so-far (refusals ∙ ap length all);
+          },
         )

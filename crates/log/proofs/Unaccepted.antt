@@ -14,7 +14,7 @@ use Rattle.model.specs.Log.{Ran, entry-whole, entries-up-to, entries, run-calls
 use Rattle.memory.specs.declared.Job.{Job}
 use Rattle.memory.specs.Jobs.{job-state}
 use Rattle.log.specs.Running.{Runs}
-use Rattle.log.proofs.Entries.{entries-cons}
+use Rattle.log_reader.proofs.Entries.{entries-cons}
 use Rattle.log.proofs.Running.{called}
 
 -- each of these calls is refused when it is asked of the state s
@@ -38,11 +38,11 @@ refused-each plan (call ∷ calls) s refusals all =
     ∙ refused-each plan calls s (refusals + 1) (all .1)
     ∙ omega arith
 
-module _ {log : List ℕ} {job job′ : Job} (runs : Runs log job job′) where
+module _ {log : List ℕ} {job job′ : Job} {refusals : ℕ} (runs : Runs log job refusals job′) where
   -- a log with no whole entry
   no-whole-entry : entries log .calls ≡ [] → job′ ≡ job
   unfolding run-log run-calls
-  no-whole-entry none = runs .untouched (rw none refl)
+  no-whole-entry none = runs .untouched (runs .counted ∙ rw none refl)
 
   pub after-an-empty-log : log ≡ [] → job′ ≡ job
   unfolding entries entries-up-to
@@ -55,4 +55,4 @@ module _ {log : List ℕ} {job job′ : Job} (runs : Runs log job job′) where
   -- every call is refused when it is asked of the state that the run began with
   pub after-refusals-only : AllRefused (job-state job) (entries log .calls) → job′ ≡ job
   unfolding run-log
-  after-refusals-only all = runs .untouched (refused-each _ (entries log .calls) (job-state job) 0 all ∙ omega arith)
+  after-refusals-only all = runs .untouched (runs .counted ∙ refused-each _ (entries log .calls) (job-state job) 0 all ∙ omega arith)

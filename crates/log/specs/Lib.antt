@@ -1,3 +1,2 @@
--- The log in place. Reading: the entry at a place of a log, and the model's entries from there on. Running: what running a log promises.
-pub mod Reading
+-- What running a log promises.
 pub mod Running

@@ -1,5 +1,4 @@
--- What running a log on a job in place promises. The log's answer and the count of its refused calls stand beside it, as equations with
--- the model's.
+-- What running a log on a job in place promises. The log's answer stands beside it, as an equation with the model's.
 use mathlib.Core.Path.{_≡_}
 use mathlib.Core.List.{List, _++_}
 use Prim.Native.Nat.{ℕ}
@@ -23,12 +22,13 @@ log-answer-of BrokenEntry = refused 18
 abbrev pub run-of : List ℕ → Job → Ran
 run-of log job = run-log (job-plan job) log (job-state job)
 
--- the log was run on this job, and left that one
-pub record Runs (log : List ℕ) (job job′ : Job) : Type 0 where
+-- the log was run on this job, had so many refused calls, and left that one
+pub record Runs (log : List ℕ) (job : Job) (refusals : ℕ) (job′ : Job) : Type 0 where
+  pub counted : refusals ≡ run-of log job .refusals
   pub state-after : job-state job′ ≡ run-of log job .state
   pub same-plan : job-plan job′ ≡ job-plan job
   -- whatever plan and calls reached the job, with the calls of the log's whole entries they reach the one that it leaves
   pub reached : (plan : Plan) (calls : List Call) → Reached plan calls job → Reached plan (calls ++ entries log .calls) job′
   -- where as many calls are refused as the log has whole entries (an empty log, one that is broken at its first entry, one whose calls are
   -- all refused) the job is as it came
-  pub untouched : run-of log job .refusals ≡ length (entries log .calls) → job′ ≡ job
+  pub untouched : refusals ≡ length (entries log .calls) → job′ ≡ job

@@ -3,3 +3,4 @@ pub mod Regions
 pub mod Walks
 pub mod Views
 pub mod Words
+pub mod Executions

@@ -9,12 +9,15 @@ use lib.ListN.{length, getD, set, length-set}
 use lib.Seq.{getD-set-same, getD-set-other}
 use borrow.Author.Tests.{eqb-true, eqb-false, ne-eqb}
 use Rattle.model.specs.Tests.{count-set, all-set}
+use Rattle.model.specs.Machine.{finished}
 use Rattle.laws.specs.Invariants.{occurrences}
 use Rattle.lists.proofs.Lists.{count-set-at-most}
 use Rattle.memory.specs.declared.Deque.{Deque}
+use Rattle.memory.specs.Parts.{Parts}
+use Rattle.memory.specs.Words.{Numbers}
 use Rattle.memory.specs.Graphs.{successors-at, successors-view}
 use Rattle.memory.specs.View.{tasks-of, front-at, size-at, ends-at, put-deque, deque-at, deques-view, ring-place}
-use Rattle.memory.specs.View.{muggable-view, worked-view, worked-mark}
+use Rattle.memory.specs.View.{muggable-view, worked-view, worked-mark, view}
 use Rattle.memory.proofs.Walks.{length-walk}
 use Rattle.lists.proofs.Tables.{table-length, table-at, table-set, table-same, table-tail}
 
@@ -134,8 +137,14 @@ ring-tail next ends head head′ waiting inside e =
 -- ---- the finish
 
 -- all tasks are worked exactly when as many are worked as there are
-pub all-counted : (flags : List Bool) → all-set flags ≡ eqb (count-set flags) (length flags)
+all-counted : (flags : List Bool) → all-set flags ≡ eqb (count-set flags) (length flags)
 unfolding all-set count-set
 all-counted [] = refl
 all-counted (true ∷ flags) = all-counted flags ∙ sym (eqb·suc-suc (count-set flags) (length flags))
 all-counted (false ∷ flags) = sym (ne-eqb (count-set flags) (suc (length flags)) (λ e. omega (arith, count-set-at-most flags)))
+
+-- "finished": the number of worked tasks is that of all tasks
+pub finished-shown : (p : Parts) (m : Numbers) → m .done ≡ count-set (worked-view (p .pending) (m .tasks)) →
+    finished (view p m) ≡ eqb (m .done) (m .tasks)
+unfolding finished
+finished-shown p m done-right = all-counted (worked-view (p .pending) (m .tasks)) ∙ rw (← done-right, flags-shown) refl

@@ -1,49 +1,29 @@
 -- A list of 18 words is its 18 words: what holds of every 18 numbers in a row holds of it. So a claim about stores at literal places is
 -- computed.
-use mathlib.Core.Path.{_≡_, refl, _∙_}
-use mathlib.Core.List.{List, [], _∷_}
-use Prim.Native.Nat.{ℕ, suc, _≤_, _<_}
+use mathlib.Core.Path.{_≡_, refl, sym, ap, subst, _∙_}
+use mathlib.Core.List.{List, [], _∷_, map}
+use Prim.Native.Nat.{ℕ, _+_, _-_, _≤_, _<_}
 use native.Mathlib.Omega.{arith}
-use lib.ListN.{length, set, length-set}
-use lib.Seq.{getD-set-other}
+use lib.ListN.{length, getD, set, drop, length-set}
+use lib.Seq.{ext-getD, getD-drop, getD-set-other}
+use Rattle.model.specs.Tests.{below}
+use Rattle.lists.proofs.Tables.{table-length, table-at}
 use Rattle.memory.specs.Words.{word, word-count, SameTail}
 
--- a list of one more has a first
-first-of : (P : List ℕ → Type 0) (n : ℕ) → ((a : ℕ) (rest : List ℕ) → length rest ≡ n → P (a ∷ rest)) → (l : List ℕ) →
-    length l ≡ suc n → P l
-first-of P n h [] e = absurd (omega (arith, e))
-first-of P n h (a ∷ rest) e = h a rest (omega (arith, e))
+-- the list is the table of its words
+tabled : (words : List ℕ) → length words ≡ word-count → map (word words) (below word-count) ≡ words
+tabled words size =
+    ext-getD 0 (map (word words) (below word-count)) words (table-length (word words) word-count ∙ sym size)
+    (λ i l. table-at (word words) word-count i 0 (rw (table-length (word words) word-count) at l))
 
-none-of : (P : List ℕ → Type 0) → P [] → (l : List ℕ) → length l ≡ 0 → P l
-none-of P h [] e = h
-none-of P h (a ∷ rest) e = absurd (omega (arith, e))
+-- so many numbers in a row
+abbrev pub row-of : (ℕ → ℕ) → List ℕ
+row-of w =
+    w 0 ∷ w 1 ∷ w 2 ∷ w 3 ∷ w 4 ∷ w 5 ∷ w 6 ∷ w 7 ∷ w 8 ∷ w 9 ∷ w 10 ∷ w 11 ∷ w 12 ∷ w 13 ∷ w 14 ∷ w 15 ∷ w 16 ∷ w 17 ∷ []
 
-pub by-words : (P : List ℕ → Type 0) →
-    ((w0 w1 w2 w3 w4 w5 w6 w7 w8 w9 w10 w11 w12 w13 w14 w15 w16 w17 : ℕ) →
-    P (w0 ∷ w1 ∷ w2 ∷ w3 ∷ w4 ∷ w5 ∷ w6 ∷ w7 ∷ w8 ∷ w9 ∷ w10 ∷ w11 ∷ w12 ∷ w13 ∷ w14 ∷ w15 ∷ w16 ∷ w17 ∷ [])) →
-    (words : List ℕ) → length words ≡ word-count → P words
-by-words P h =
-    first-of P 17
-    (λ w0. first-of (λ (l : List ℕ). P (w0 ∷ l)) 16
-    (λ w1. first-of (λ (l : List ℕ). P (w0 ∷ w1 ∷ l)) 15
-    (λ w2. first-of (λ (l : List ℕ). P (w0 ∷ w1 ∷ w2 ∷ l)) 14
-    (λ w3. first-of (λ (l : List ℕ). P (w0 ∷ w1 ∷ w2 ∷ w3 ∷ l)) 13
-    (λ w4. first-of (λ (l : List ℕ). P (w0 ∷ w1 ∷ w2 ∷ w3 ∷ w4 ∷ l)) 12
-    (λ w5. first-of (λ (l : List ℕ). P (w0 ∷ w1 ∷ w2 ∷ w3 ∷ w4 ∷ w5 ∷ l)) 11
-    (λ w6. first-of (λ (l : List ℕ). P (w0 ∷ w1 ∷ w2 ∷ w3 ∷ w4 ∷ w5 ∷ w6 ∷ l)) 10
-    (λ w7. first-of (λ (l : List ℕ). P (w0 ∷ w1 ∷ w2 ∷ w3 ∷ w4 ∷ w5 ∷ w6 ∷ w7 ∷ l)) 9
-    (λ w8. first-of (λ (l : List ℕ). P (w0 ∷ w1 ∷ w2 ∷ w3 ∷ w4 ∷ w5 ∷ w6 ∷ w7 ∷ w8 ∷ l)) 8
-    (λ w9. first-of (λ (l : List ℕ). P (w0 ∷ w1 ∷ w2 ∷ w3 ∷ w4 ∷ w5 ∷ w6 ∷ w7 ∷ w8 ∷ w9 ∷ l)) 7
-    (λ w10. first-of (λ (l : List ℕ). P (w0 ∷ w1 ∷ w2 ∷ w3 ∷ w4 ∷ w5 ∷ w6 ∷ w7 ∷ w8 ∷ w9 ∷ w10 ∷ l)) 6
-    (λ w11. first-of (λ (l : List ℕ). P (w0 ∷ w1 ∷ w2 ∷ w3 ∷ w4 ∷ w5 ∷ w6 ∷ w7 ∷ w8 ∷ w9 ∷ w10 ∷ w11 ∷ l)) 5
-    (λ w12. first-of (λ (l : List ℕ). P (w0 ∷ w1 ∷ w2 ∷ w3 ∷ w4 ∷ w5 ∷ w6 ∷ w7 ∷ w8 ∷ w9 ∷ w10 ∷ w11 ∷ w12 ∷ l)) 4
-    (λ w13. first-of (λ (l : List ℕ). P (w0 ∷ w1 ∷ w2 ∷ w3 ∷ w4 ∷ w5 ∷ w6 ∷ w7 ∷ w8 ∷ w9 ∷ w10 ∷ w11 ∷ w12 ∷ w13 ∷ l)) 3
-    (λ w14. first-of (λ (l : List ℕ). P (w0 ∷ w1 ∷ w2 ∷ w3 ∷ w4 ∷ w5 ∷ w6 ∷ w7 ∷ w8 ∷ w9 ∷ w10 ∷ w11 ∷ w12 ∷ w13 ∷ w14 ∷ l)) 2
-    (λ w15. first-of (λ (l : List ℕ). P (w0 ∷ w1 ∷ w2 ∷ w3 ∷ w4 ∷ w5 ∷ w6 ∷ w7 ∷ w8 ∷ w9 ∷ w10 ∷ w11 ∷ w12 ∷ w13 ∷ w14 ∷ w15 ∷ l)) 1
-    (λ w16. first-of (λ (l : List ℕ). P (w0 ∷ w1 ∷ w2 ∷ w3 ∷ w4 ∷ w5 ∷ w6 ∷ w7 ∷ w8 ∷ w9 ∷ w10 ∷ w11 ∷ w12 ∷ w13 ∷ w14 ∷ w15 ∷ w16 ∷ l)) 0
-    (λ w17.
-    none-of (λ (l : List ℕ). P (w0 ∷ w1 ∷ w2 ∷ w3 ∷ w4 ∷ w5 ∷ w6 ∷ w7 ∷ w8 ∷ w9 ∷ w10 ∷ w11 ∷ w12 ∷ w13 ∷ w14 ∷ w15 ∷ w16 ∷ w17 ∷ l))
-    (h w0 w1 w2 w3 w4 w5 w6 w7 w8 w9 w10 w11 w12 w13 w14 w15 w16 w17)))))))))))))))))))
+pub by-words : (P : List ℕ → Type 0) → ((w : ℕ → ℕ) → P (row-of w)) → (words : List ℕ) → length words ≡ word-count → P words
+unfolding below
+by-words P h words size = subst P (tabled words size) (h (word words))
 
 -- ---- stores among the execution's numbers leave the rest
 
@@ -62,4 +42,15 @@ tail-store words place v few =
     record {
       same-length = length-set words place v;
       same-from = λ i h. getD-set-other words place i v 0 (λ e. omega (arith, few, h, e));
+    }
+
+-- the first ten words may differ where the others as a list are the same
+pub tail-from : {words words′ : List ℕ} → length words′ ≡ length words → drop 10 words′ ≡ drop 10 words → SameTail words words′
+tail-from {words} {words′} same rest =
+    record {
+      same-length = same;
+      same-from = λ place h.
+          let there : 10 + (place - 10) ≡ place = omega arith in
+          rw there at (sym (getD-drop 10 words′ (place - 10) 0)
+          ∙ ap (λ (l : List ℕ). getD l (place - 10) 0) rest ∙ getD-drop 10 words (place - 10) 0);
     }

@@ -3,6 +3,7 @@ use mathlib.Core.Bool.{Bool, true, false}
 use mathlib.Core.List.{List}
 use Prim.Native.Nat.{ℕ}
 use denote.Ref.{RefT, now}
+use denote.Triple.Both.{Both}
 use Rattle.model.specs.Plan.{Plan}
 use Rattle.model.specs.Machine.{State, Quantum, idle, opened}
 use Rattle.memory.specs.declared.Job.{Job}
@@ -18,6 +19,13 @@ lent memory words = record { memory = memory; words = words }
 -- the job that two references hold
 abbrev pub job : RefT (List ℕ) → RefT (List ℕ) → Job
 job memory words = lent (now memory) (now words)
+
+-- .. and that two references to be written through hold when a function is called, and when it returns
+abbrev pub job-before : Both (RefT (List ℕ)) (RefT (List ℕ)) → Both (RefT (List ℕ)) (RefT (List ℕ)) → Job
+job-before memory words = job (memory .entry) (words .entry)
+
+abbrev pub job-after : Both (RefT (List ℕ)) (RefT (List ℕ)) → Both (RefT (List ℕ)) (RefT (List ℕ)) → Job
+job-after memory words = job (memory .exit) (words .exit)
 
 abbrev pub job-parts : Job → Parts
 job-parts job = parts (job .memory)

@@ -3,6 +3,8 @@ use mathlib.Core.Path.{_≡_}
 use mathlib.Core.List.{List}
 use Prim.Native.Nat.{ℕ}
 use lib.ListN.{take, drop}
+use denote.Ref.{RefT, now}
+use denote.Triple.Both.{Both}
 
 -- so many elements from an offset on
 unfoldable pub region : ℕ → ℕ → List ℕ → List ℕ
@@ -24,6 +26,13 @@ parts memory =
       pending = region 3072 1024 memory;
       ends = region 4096 256 memory;
     }
+
+-- the parts of a memory that a reference holds when a function is called, and when it returns
+abbrev pub parts-before : Both (RefT (List ℕ)) (RefT (List ℕ)) → Parts
+parts-before memory = parts (now (memory .entry))
+
+abbrev pub parts-after : Both (RefT (List ℕ)) (RefT (List ℕ)) → Parts
+parts-after memory = parts (now (memory .exit))
 
 -- so many elements have all parts
 abbrev pub memory-size : ℕ

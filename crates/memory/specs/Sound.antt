@@ -47,21 +47,3 @@ pub record Sound (p : Parts) (m : Numbers) : Type 0 where
   pub planned : SoundGraph (graph p (m .tasks))
   pub lawful : Lawful (graph p (m .tasks)) (view p m)
   pub kept : Kept (graph p (m .tasks)) p m
-
--- no count exceeds this
-pub record Room (most : ℕ) (m : Numbers) : Type 0 where
-  pub works-fit : m .works ≤ most
-  pub mugs-fit : m .mugs ≤ most
-  pub steals-fit : m .steals ≤ most
-  pub successes-fit : m .successes ≤ most
-  pub usage-fits : m .usage ≤ most
-
--- no count grew by more than this, and tasks and workers are as many as before
-pub record Grown (more : ℕ) (before after : Numbers) : Type 0 where
-  pub same-tasks : after .tasks ≡ before .tasks
-  pub same-workers : after .workers ≡ before .workers
-  pub works-grew : after .works ≤ before .works + more
-  pub mugs-grew : after .mugs ≤ before .mugs + more
-  pub steals-grew : after .steals ≤ before .steals + more
-  pub successes-grew : after .successes ≤ before .successes + more
-  pub usage-grew : after .usage ≤ before .usage + more

@@ -12,15 +12,17 @@ use Rattle.model.specs.Plan.{header, task-count, task-questions, header-questio
 use Rattle.model.specs.Plan.{plan-answer}
 use Rattle.memory.specs.Parts.{Parts, parts}
 use Rattle.memory.proofs.Regions.{store-pending}
-use Rattle.plan.specs.declared.PlanAnswer.{PlanAnswer}
-use Rattle.plan.specs.declared.PlanAnswer.the-variants.{Accepted, Short, BadPredecessors, LooseEnd}
-use Rattle.plan.specs.declared.Header.{Header}
+use Rattle.plan_fields.specs.declared.PlanAnswer.{PlanAnswer}
+use Rattle.plan_fields.specs.declared.PlanAnswer.the-variants.{Accepted, Short, BadPredecessors, LooseEnd}
+use Rattle.plan_fields.specs.declared.Header.{Header}
 use Rattle.plan.specs.declared.Heading.{Heading}
-use Rattle.plan.specs.Answers.{answer-of, passes}
-use Rattle.plan.specs.Contracts.{five-bytes, field-questions, HeaderOf, HeaderRead, Held, Due, TasksRead, one-or-two, followed}
+use Rattle.plan_fields.specs.Answers.{answer-of, passes}
+use Rattle.plan_fields.specs.Fields.{five-bytes, field-questions, HeaderOf}
+use Rattle.plan.specs.Contracts.{HeaderRead, Held, Due, TasksRead, one-or-two, followed}
 use Rattle.plan.specs.Contracts.{HeadingRead, no-memory}
 use Rattle.plan.specs.Promise.{no-heading, Holds, RightHeading}
-use Rattle.plan.proofs.Asked.{passes-is, passes-not, stops, two-accepted, first-refused, second-refused}
+use Rattle.lists.proofs.Questions.{two-accepted, first-refused, second-refused}
+use Rattle.plan_fields.proofs.Answers.{passes-is, passes-not, stops}
 use Rattle.plan.proofs.Facts.{header-facts}
 use Rattle.plan.proofs.Sound.{answer-parts, graph-facts}
 use Rattle.plan.proofs.Steps.{header-bytes}

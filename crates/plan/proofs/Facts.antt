@@ -15,7 +15,7 @@ use Rattle.model.specs.Plan.{targets-ok, task-questions, header-questions}
 use Rattle.lists.proofs.Tests.{true-is-not-false, and-left, and-right, both}
 use Rattle.lists.proofs.Lists.{every-at, every-from}
 use Rattle.lists.proofs.Tables.{table-length, table-at}
-use Rattle.plan.proofs.Asked.{ask-accepted, two-accepted}
+use Rattle.lists.proofs.Questions.{ask-accepted, two-accepted}
 
 -- ---- the plan that bytes give
 

@@ -1,10 +1,7 @@
--- Lists, Asked: laws of the tools that the definitions are said with. Facts: what each question says as a fact.
--- Sound: accepted exactly when the plan rules hold, and what acceptance gives.
--- Refusals, Stores, Steps, Whole, Answered: what the functions' proofs cite, in the order of reading.
-pub mod Asked
+-- Facts: what each question says as a fact. Sound: accepted exactly when the plan rules hold, and what acceptance gives.
+-- Stores, Steps, Whole, Answered: what the functions' proofs cite, in the order of reading.
 pub mod Facts
 pub mod Sound
-pub mod Refusals
 pub mod Stores
 pub mod Steps
 pub mod Whole

@@ -20,8 +20,8 @@ use Rattle.plan.specs.Rules.{WellFormed, PlanRules, WithinBounds, Leads,
 use Rattle.lists.proofs.Tests.{and-left, and-right, both}
 use Rattle.lists.proofs.Lists.{every-at, every-from, below-has, below-is, is-member}
 use Rattle.lists.proofs.Ranges.{mem-from-one, from-one-mem, keep-some}
-use Rattle.plan.proofs.Asked.{and-then, first-no-append, first-accepted, second-accepted, ask-accepted, two-accepted, accepted-at}
-use Rattle.plan.proofs.Asked.{accepted-below}
+use Rattle.lists.proofs.Questions.{and-then, first-no-append, first-accepted, second-accepted, ask-accepted, two-accepted, accepted-at}
+use Rattle.lists.proofs.Questions.{accepted-below}
 use Rattle.plan.proofs.Facts.{tasks-of, successors-given, HeaderFacts, header-facts, header-accepted, TargetFacts, TaskFacts}
 use Rattle.plan.proofs.Facts.{task-facts, task-accepted, used-most, same-targets}
 

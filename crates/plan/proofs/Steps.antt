@@ -12,14 +12,16 @@ use Rattle.model.specs.Questions.{Question, Answer, accepted, refused, first-no
 use Rattle.model.specs.Plan.{number, header, task-bits, task-count, count-field, first-field, second-field, used-fields, successor-fields}
 use Rattle.model.specs.Plan.{task-questions}
 use Rattle.memory.specs.Parts.{Parts, with-pending}
-use Rattle.plan.specs.Contracts.{five-bytes, three-bytes, pair-questions, saturated, noted, counted, Held, TaskOf, TaskRead}
+use Rattle.plan_fields.specs.Fields.{five-bytes, three-bytes, pair-questions, TaskOf}
+use Rattle.plan.specs.Contracts.{saturated, noted, counted, Held, TaskRead}
 use Rattle.plan.specs.Contracts.{TasksRead}
-use Rattle.plan.specs.declared.TaskFields.{TaskFields}
-use Rattle.plan.specs.declared.PlanAnswer.{PlanAnswer}
-use Rattle.plan.specs.declared.PlanAnswer.the-variants.{Accepted}
-use Rattle.plan.specs.Answers.{answer-of, passes}
+use Rattle.plan_fields.specs.declared.TaskFields.{TaskFields}
+use Rattle.plan_fields.specs.declared.PlanAnswer.{PlanAnswer}
+use Rattle.plan_fields.specs.declared.PlanAnswer.the-variants.{Accepted}
+use Rattle.plan_fields.specs.Answers.{answer-of, passes}
 use Rattle.lists.proofs.Ranges.{keep-below}
-use Rattle.plan.proofs.Asked.{and-then, first-no-below, passes-is, passes-not, refused-at}
+use Rattle.lists.proofs.Questions.{and-then, first-no-below, refused-at}
+use Rattle.plan_fields.proofs.Answers.{passes-is, passes-not}
 use Rattle.plan.proofs.Facts.{FieldFacts, TargetFacts, TaskFacts, task-facts}
 use Rattle.plan.proofs.Stores.{with-fields, stored-held, stored-ends, noted-ends, note-successors}
 

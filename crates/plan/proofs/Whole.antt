@@ -25,7 +25,7 @@ use Rattle.plan.specs.Headings.{plan-view, Ends}
 use Rattle.plan.specs.Contracts.{saturated, counted, Held, one-or-two, followed, no-memory}
 use Rattle.plan.specs.Promise.{Holds}
 use Rattle.lists.proofs.Ranges.{from-one-mem, every-cong, every-below, keep-cong, keep-some}
-use Rattle.plan.proofs.Asked.{accepted-at}
+use Rattle.lists.proofs.Questions.{accepted-at}
 use Rattle.plan.proofs.Facts.{tasks-of, successors-given, FieldFacts, TargetFacts, TaskFacts, task-facts}
 use Rattle.plan.proofs.Sound.{GraphFacts}
 

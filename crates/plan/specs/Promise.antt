@@ -7,8 +7,8 @@ use Rattle.model.specs.Questions.{accepted, refused}
 use Rattle.model.specs.Plan.{predecessors, plan-of, plan-answer}
 use Rattle.memory.specs.Parts.{parts}
 use Rattle.plan.specs.declared.Heading.{Heading}
-use Rattle.plan.specs.declared.PlanAnswer.{PlanAnswer}
-use Rattle.plan.specs.Answers.{answer-of}
+use Rattle.plan_fields.specs.declared.PlanAnswer.{PlanAnswer}
+use Rattle.plan_fields.specs.Answers.{answer-of}
 use Rattle.plan.specs.Headings.{plan-view, Ends}
 
 -- the heading and the memory hold the plan of the bytes, how many predecessors each task has, 0 at and past N, and no link and no deque

@@ -48,8 +48,8 @@ fn show(name: &[u8], bytes: &[u8]) {
     let mut memory = [9u16; 4352];
     let heading = plan::read_into(bytes, &mut memory);
     let answer = heading.answer;
-    put_after(b": ", plan::number(answer) as u16);
-    if plan::passed(answer) {
+    put_after(b": ", plan_fields::number(answer) as u16);
+    if plan_fields::passed(answer) {
         put_after(b" R ", heading.responsiveness as u16);
         put_after(b" D ", heading.utilization as u16);
         put_after(b" L ", heading.quantum_length);

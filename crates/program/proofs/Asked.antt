@@ -11,8 +11,8 @@ use borrow.Author.Tests.{le-leb, lt-leb}
 use Rattle.model.specs.Questions.{Answer, accepted, refused, answer-number, first-no}
 use Rattle.model.specs.Plan.{number, plan-of, plan-answer}
 use Rattle.model.specs.Program.{plan-length, plan-part, log-part, input-questions, refused-line, log-output, output-by, program}
-use Rattle.plan.specs.Answers.{passes}
-use Rattle.plan.proofs.Asked.{passes-is}
+use Rattle.plan_fields.specs.Answers.{passes}
+use Rattle.plan_fields.proofs.Answers.{passes-is}
 use Rattle.program.specs.declared.Output.{Output}
 use Rattle.program.specs.Output.{Prints}
 

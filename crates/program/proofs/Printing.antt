@@ -13,7 +13,7 @@ use Rattle.model.specs.Counters.{decimal, spaced, counters-answer, put-at-start
 use Rattle.model.specs.Program.{refused-line}
 use Rattle.counters.specs.declared.Counters.{Counters}
 use Rattle.counters.specs.declared.LineAnswer.{LineAnswer}
-use Rattle.counters.specs.Line.{numbers-of, line-length}
+use Rattle.counters.specs.Line.{numbers-of, line-length, WritesLine}
 use Rattle.counters.specs.Put.{put, put-if-room, next-if-room}
 use Rattle.counters.proofs.Decimal.{at-most}
 use Rattle.counters.proofs.Put.{length-put, put-append, put-start, ended}
@@ -86,16 +86,15 @@ enough : (b : List ℕ) → 128 ≤ length b → counters-answer b ≡ accepted
 unfolding counters-answer first-no
 enough b h = rw (le-leb 128 (length b) h)
 
-pub line-put : (k : Counters) → Wide k → (b exit : List ℕ) (answer : LineAnswer) (size : ℕ) → 128 ≤ length b
-    → line-length answer ≡ by-answer (counters-answer b) (length (spaced (numbers-of k))) 0
-    → exit ≡ by-answer (counters-answer b) (put-at-start (spaced (numbers-of k)) b) b → line-length answer ≡ size → LinePut k b exit size
-line-put k w b exit answer size room e f g =
+pub line-put : (k : Counters) → Wide k → {b exit : List ℕ} {answer : LineAnswer} (size : ℕ) → 128 ≤ length b →
+    WritesLine (spaced (numbers-of k)) b exit answer → line-length answer ≡ size → LinePut k b exit size
+line-put k w {b} size room written g =
     let long : size ≡ length (spaced (numbers-of k)) =
-    sym g ∙ e ∙ ap (λ (a : Answer). by-answer a (length (spaced (numbers-of k))) 0) (enough b room) in
+    sym g ∙ written .sized ∙ ap (λ (a : Answer). by-answer a (length (spaced (numbers-of k))) 0) (enough b room) in
     record {
       long = long;
       short = omega (arith, long, line-within k w);
-      bytes = f ∙ ap (λ (a : Answer). by-answer a (put-at-start (spaced (numbers-of k)) b) b) (enough b room);
+      bytes = written .bytes ∙ ap (λ (a : Answer). by-answer a (put-at-start (spaced (numbers-of k)) b) b) (enough b room);
     }
 
 -- ---- the output read back

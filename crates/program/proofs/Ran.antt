@@ -88,17 +88,17 @@ module _ {bytes : List ℕ} {before fresh-job : Job} (accepts : Accepts bytes be
   pub its-job : IsJob fresh-job
   its-job = (plan-of bytes, [], accepts .reached yes)
 
-  module _ {log : List ℕ} {job : Job} (runs : Runs log fresh-job job) where
+  module _ {log : List ℕ} {refusals : ℕ} {job : Job} (runs : Runs log fresh-job refusals job) where
     -- what the log left is a job
     pub job-left : IsJob job
     job-left = (plan-of bytes, _, runs .reached (plan-of bytes) [] (accepts .reached yes))
 
-    pub log-printed : {refusals : ℕ} {answer : LogAnswer} {r : Output} → refusals ≡ run-of log fresh-job .refusals →
-        log-answer-of answer ≡ log-answer log → PrintsRan (job .words) refusals answer r → Prints (log-output (plan-of bytes) log) r
+    pub log-printed : {answer : LogAnswer} {r : Output} → log-answer-of answer ≡ log-answer log →
+        PrintsRan (job .words) refusals answer r → Prints (log-output (plan-of bytes) log) r
     unfolding log-output
-    log-printed counted answered prints =
+    log-printed answered prints =
         let same : run-of log fresh-job ≡ run-log (plan-of bytes) log (fresh (plan-of bytes)) =
         rw (accepts .its-plan yes, accepts .its-state yes) refl in
         let its-state = runs .state-after ∙ ap (λ r. r .state) same in
-        let its-count = counted ∙ ap (λ r. r .refusals) same in
+        let its-count = runs .counted ∙ ap (λ r. r .refusals) same in
         rw (runs .same-plan ∙ accepts .its-plan yes, its-state, its-count, answered) at (prints .right (job .memory) job-left)

@@ -91,8 +91,8 @@ fn plan_output(plan: &[u8], log: &[u8]) -> Output
     let mut memory = [0u16; 4352];
     let mut words = [0u64; 18];
     let answer = engine::accept(plan, &mut memory, &mut words);
-    if !plan::passed(answer) {
-        return refusal(plan::number(answer));
+    if !plan_fields::passed(answer) {
+        return refusal(plan_fields::number(answer));
     }
     let mut refusals = 0u64;
     let ran = log::run(&mut memory, &mut words, log, &mut refusals);

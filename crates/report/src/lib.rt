@@ -1,16 +1,10 @@
 // What a buyer is shown of a job record: the wording of its status, and its counters line.
-ghost use mathlib.Core.Path.{_≡_};
-ghost use denote.Ref.{ptr};
-ghost use Prim.Native.Nat.{_+_};
-ghost use lib.ListN.{length};
-ghost use Rattle.model.specs.Questions.{answer-number, by-answer};
 ghost use Rattle.model.specs.Machine.{status};
-ghost use Rattle.model.specs.Label.{label, label-answer, bytes-of};
-ghost use Rattle.model.specs.Counters.{counters-line, counters-answer, buffer-after};
-ghost use Rattle.counters.specs.Line.{line-answer, line-length};
-ghost use Rattle.memory.specs.Jobs.{job-plan, job-state};
+ghost use Rattle.memory.specs.Jobs.{job-state};
 ghost use Rattle.engine.specs.Reached.{IsJob, JobWords};
-ghost use Rattle.report.specs.Shown.{CountersOf};
+ghost use Rattle.label.specs.Wording.{IsWording};
+ghost use Rattle.counters.specs.Line.{WritesLine};
+ghost use Rattle.report.specs.Shown.{CountersOf, line-of};
 use counters::Counters;
 use counters::LineAnswer;
 use memory::Job;
@@ -43,10 +37,7 @@ pub fn counters_of(words: &[u64; 18], refusals: u64) -> Counters
 // as it is.
 pub fn job_line(job: Job, refusals: u64, buffer: &mut [u8]) -> LineAnswer
     requires { ⌜ IsJob job ⌝ }
-    ensures answer { λ r. ⌜ line-answer r ≡ counters-answer (now (buffer .entry)) ⌝ }
-    ensures size { λ r. ⌜ line-length r
-        ≡ by-answer (counters-answer (now (buffer .entry))) (length (counters-line (job-plan job) (job-state job) refusals)) 0 ⌝ }
-    ensures bytes { λ _. ⌜ now (buffer .exit) ≡ buffer-after (job-plan job) (job-state job) refusals (now (buffer .entry)) ⌝ }
+    ensures { λ r. ⌜ WritesLine (line-of job refusals) (now (buffer .entry)) (now (buffer .exit)) r ⌝ }
 {
     let words = job.words;
     let shown = counters_of(&words, refusals);
@@ -57,10 +48,7 @@ pub fn job_line(job: Job, refusals: u64, buffer: &mut [u8]) -> LineAnswer
 // no such line, the empty part at its start, with 19 behind `refusal`.
 pub fn job_wording<'a>(job: Job, sheet: &'a [u8], refusal: &mut u8) -> &'a [u8]
     requires { ⌜ IsJob job ⌝ }
-    ensures bytes { λ r. ⌜ now r ≡ bytes-of (now (sheet .entry)) (label (now (sheet .entry)) (status (job-state job))) ⌝ }
-    ensures place { λ r. ⌜ ptr r
-        ≡ (ptr (sheet .entry) .0, ptr (sheet .entry) .1 + label (now (sheet .entry)) (status (job-state job)) .start) ⌝ }
-    ensures number { λ _. ⌜ now (refusal .exit) ≡ answer-number (label-answer (now (sheet .entry)) (status (job-state job))) ⌝ }
+    ensures { λ r. ⌜ IsWording (sheet .entry) (status (job-state job)) r (now (refusal .exit)) ⌝ }
 {
     let shown = job::job_status(job);
     label::wording(sheet, status::number_of(shown), refusal)

@@ -15,10 +15,12 @@ use Rattle.memory.specs.Parts.{Parts, with-ends, SameGraph}
 use Rattle.memory.specs.Words.{Numbers}
 use Rattle.memory.specs.Graphs.{graph}
 use Rattle.memory.specs.View.{walk, front-at, size-at, view}
-use Rattle.memory.specs.Sound.{Sizes, Lawful, Kept, Sound, Grown}
+use Rattle.memory.specs.Sound.{Sizes, Lawful, Kept, Sound}
+use Rattle.memory.specs.Cycles.{after-work, Grown}
 use Rattle.memory.proofs.Walks.{walk-front}
 use Rattle.memory.proofs.Views.{deque-at-is, worker-at, workers-shown}
-use Rattle.turn.specs.Turns.{after-work, Worked, ChoiceTurn, Cycled}
+use Rattle.work.specs.Works.{Worked}
+use Rattle.turn.specs.Turns.{ChoiceTurn, Cycled}
 
 -- ---- the model's cycle, by what the worker sees
 

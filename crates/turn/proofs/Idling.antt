@@ -9,9 +9,10 @@ use Rattle.memory.specs.Parts.{parts}
 use Rattle.memory.specs.Words.{word, numbers-in}
 use Rattle.memory.specs.View.{size-at, ends-at, put-part, ring-place}
 use Rattle.deque.specs.Links.{robbed}
-use Rattle.turn.specs.declared.Tally.{Tally}
-use Rattle.turn.specs.Turns.{add-mug, SameButSuccesses, IdleTurn, Idled}
-use Rattle.turn.proofs.Tallying.{mug-added, steal-added, success-added}
+use Rattle.tally.specs.declared.Tally.{Tally}
+use Rattle.tally.specs.Tallies.{add-mug}
+use Rattle.turn.specs.Turns.{SameButSuccesses, IdleTurn, Idled}
+use Rattle.tally.proofs.Tallying.{mug-added, steal-added, success-added}
 use Rattle.turn.proofs.Mugging.{cycled-mug}
 use Rattle.turn.proofs.Stealing.{cycled-nothing, cycled-theft}
 
@@ -27,7 +28,7 @@ module _ {memory words : List ℕ} {w choice : ℕ} {t : Tally} (turn : IdleTurn
       (record {
         cycled = rw (put, number, mug-added (numbers-in words) w t) (cycled-mug (turn .turn) (omega arith) (turn .empty));
         same-works = refl;
-        counted = omega (arith, turn .counted);
+        counted = omega (arith, turn .addable .counted);
         same-words = same-words words;
       })
 
@@ -35,9 +36,9 @@ module _ {memory words : List ℕ} {w choice : ℕ} {t : Tally} (turn : IdleTurn
     pub idled-nothing : getD (parts memory .ends) (size-at choice) 0 ≤ 1 → Idled memory words w choice t memory words t
     idled-nothing few =
         record {
-          cycled = rw (steal-added (numbers-in words) w t (turn .counted)) (cycled-nothing (turn .turn) (turn .empty) (omega arith) (omega arith));
+          cycled = rw (steal-added (numbers-in words) w t (turn .addable .counted)) (cycled-nothing (turn .turn) (turn .empty) (omega arith) (omega arith));
           same-works = refl;
-          counted = omega (arith, turn .counted);
+          counted = omega (arith, turn .addable .counted);
           same-words = same-words words;
         }
 
@@ -47,9 +48,9 @@ module _ {memory words : List ℕ} {w choice : ℕ} {t : Tally} (turn : IdleTurn
     idled-theft many theft stored =
         rw stored
         (record {
-          cycled = rw (success-added words w t (turn .counted) (turn .size), theft) (cycled-theft (turn .turn) (omega arith) (turn .empty) (omega arith));
+          cycled = rw (success-added words w t (turn .addable .counted) (turn .addable .size), theft) (cycled-theft (turn .turn) (omega arith) (turn .empty) (omega arith));
           same-works = refl;
-          counted = omega (arith, turn .counted);
+          counted = omega (arith, turn .addable .counted);
           same-words =
               record {
                 same-length = length-set words 6 (word words 6 + 1);

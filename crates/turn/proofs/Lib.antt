@@ -1,9 +1,6 @@
--- The proofs, by topic.
-pub mod Executions
-pub mod Tallying
-pub mod Settling
+-- Cycling: one cycle, and that what shows the model's cycle is sound. Mugging, Stealing, Idling: the cycle of a worker whose deque is empty.
+-- Ticking: a tick's cycles.
 pub mod Cycling
-pub mod Working
 pub mod Mugging
 pub mod Stealing
 pub mod Idling

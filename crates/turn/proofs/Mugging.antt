@@ -10,9 +10,10 @@ use Rattle.memory.specs.Parts.{Parts}
 use Rattle.memory.specs.Words.{Numbers}
 use Rattle.memory.specs.Graphs.{graph}
 use Rattle.memory.specs.View.{size-at, ends-at, put-part, deque-at, deques-view, muggable-view, view}
+use Rattle.memory.specs.Cycles.{after-mug}
+use Rattle.memory.proofs.Executions.{same-execution, mug-counted}
 use Rattle.memory.proofs.Views.{deque-at-is, put-places, put-deques, put-muggable, ring-tail}
-use Rattle.turn.specs.Turns.{after-mug, ChoiceTurn, Cycled}
-use Rattle.turn.proofs.Executions.{same-execution, mug-counted}
+use Rattle.turn.specs.Turns.{ChoiceTurn, Cycled}
 use Rattle.turn.proofs.Cycling.{mugs, few-workers, worker-place, own-empty, cycled-idle}
 
 module _ {p : Parts} {m : Numbers} {w choice : ℕ} (turn : ChoiceTurn p m w choice) (some : 0 < m .waiting) where

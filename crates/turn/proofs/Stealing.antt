@@ -18,12 +18,13 @@ use Rattle.memory.specs.Parts.{Parts}
 use Rattle.memory.specs.Words.{Numbers}
 use Rattle.memory.specs.Graphs.{graph}
 use Rattle.memory.specs.View.{walk, front-at, size-at, ends-at, put-deque, deques-view, muggable-view, view}
+use Rattle.memory.specs.Cycles.{after-steal}
+use Rattle.memory.proofs.Executions.{same-execution, steal-counted}
 use Rattle.memory.proofs.Walks.{length-walk}
 use Rattle.memory.proofs.Views.{deque-at-is, worker-at, tasks-shown, put-places, put-deques, put-muggable}
 use Rattle.deque.specs.Links.{link-after, Robbable, left-of, taken-of, robbed}
 use Rattle.deque.proofs.Walks.{take-walk, drop-walk}
-use Rattle.turn.specs.Turns.{after-steal, ChoiceTurn, Cycled}
-use Rattle.turn.proofs.Executions.{same-execution, steal-counted}
+use Rattle.turn.specs.Turns.{ChoiceTurn, Cycled}
 use Rattle.turn.proofs.Cycling.{robs, fails, few-workers, worker-place, choice-place, own-empty, cycled-idle}
 
 none-shown : (next ends : List ℕ) (head waiting : ℕ) → waiting ≡ 0 → muggable-view next ends head waiting ≡ []

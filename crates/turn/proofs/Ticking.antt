@@ -20,13 +20,15 @@ use Rattle.memory.specs.Parts.{Parts, parts, SameGraph}
 use Rattle.memory.specs.Words.{Numbers, word, numbers-in, SameTail}
 use Rattle.memory.specs.Graphs.{graph}
 use Rattle.memory.specs.View.{size-at, worked-view, view}
-use Rattle.memory.specs.Sound.{Sound, Room, Grown}
-use Rattle.memory.proofs.Views.{workers-shown, flags-shown, all-counted}
+use Rattle.memory.specs.Sound.{Sound}
+use Rattle.memory.specs.Cycles.{Room, Grown}
+use Rattle.memory.proofs.Views.{workers-shown, flags-shown, finished-shown}
 use Rattle.memory.proofs.Words.{tail-then}
-use Rattle.turn.specs.declared.Tally.{Tally}
-use Rattle.turn.specs.Turns.{no-tally, add-work, numbers-at, cycle-limit, Addable, Settled, WorkTurn, Worked, ChoiceTurn, Cycled}
-use Rattle.turn.specs.Turns.{SameButSuccesses, IdleTurn, Idled, TickTurn, Ticked}
-use Rattle.turn.proofs.Tallying.{none-added, work-added}
+use Rattle.tally.specs.declared.Tally.{Tally}
+use Rattle.tally.specs.Tallies.{no-tally, add-work, numbers-at, Addable, Settled}
+use Rattle.tally.proofs.Tallying.{none-added, work-added}
+use Rattle.work.specs.Works.{WorkTurn, Worked}
+use Rattle.turn.specs.Turns.{ChoiceTurn, Cycled, SameButSuccesses, IdleTurn, Idled, TickTurn, Ticked}
 use Rattle.turn.proofs.Cycling.{cycled-work}
 use Rattle.turn.proofs.Idling.{same-words}
 
@@ -54,12 +56,6 @@ module _ (its-graph : Graph) (w : ℕ) (e : Execution) where
       cycles its-graph w (c ∷ cs) e ≡ cycles its-graph (suc w) cs (cycle its-graph w c e)
   unfolding cycles
   cycles-onward c cs h = rw h
-
--- "finished" is as many tasks worked as there are
-finished-is : {p : Parts} {m : Numbers} → Sound p m → finished (view p m) ≡ eqb (m .done) (m .tasks)
-unfolding finished
-finished-is {p} {m} sound =
-    all-counted (worked-view (p .pending) (m .tasks)) ∙ rw (flags-shown (p .pending) (m .tasks), sound .kept .done-right)
 
 done-of-tasks : {p : Parts} {m : Numbers} → Sound p m → m .done ≤ m .tasks
 done-of-tasks {p} {m} sound =
@@ -137,28 +133,17 @@ module _ {memory words choices : List ℕ} (tick : TickTurn memory words choices
     abbrev e : Execution
     e = view (parts memory′) m′
 
-    sized : length words′ ≡ 18
-    sized = u .same-words .same-length ∙ tick .size
-
-    pub room-now : Room cycle-limit m′
-    room-now = room-grown (tick .room) (u .grown) (omega (arith, u .part, few-choices))
-
-    waited : t .mugs .0 ≤ word words′ 9
-    waited = omega (arith, u .mugged, u .same-words .same-others 9 (λ e. omega arith), u .same-words .same-others 4 (λ e. omega arith))
-
-    head-in-ring : word words′ 8 < 64
-    head-in-ring = rw (u .same-words .same-others 8 (λ e. omega arith)) (tick .sound .kept .head-in-ring)
-
     -- the tally can be added
     pub addable : Addable words′ i t
     addable =
+        let same = u .same-words .same-others in
         record {
-          size = sized;
+          size = u .same-words .same-length ∙ tick .size;
           done-fits = omega (arith, done-of-tasks (u .sound), u .sound .few-tasks);
-          waited = waited;
-          head-in-ring = head-in-ring;
+          waited = omega (arith, u .mugged, same 9 (λ e. omega arith), same 4 (λ e. omega arith));
+          head-in-ring = rw (same 8 (λ e. omega arith)) (tick .sound .kept .head-in-ring);
           counted = u .counted;
-          room = room-now;
+          room = room-grown (tick .room) (u .grown) (omega (arith, u .part, few-choices));
         }
 
     -- the job is finished, or all workers have had their cycle, and the tally was added
@@ -174,7 +159,7 @@ module _ {memory words choices : List ℕ} (tick : TickTurn memory words choices
           }
 
       pub tick-finished : m′ .done ≡ m′ .tasks → Ticked memory words choices memory′ words″
-      tick-finished all = over (cycles-ended its-graph i e (drop i choices) (finished-is (u .sound) ∙ eq-eqb (m′ .done) (m′ .tasks) all))
+      tick-finished all = over (cycles-ended its-graph i e (drop i choices) (finished-shown (parts memory′) m′ (u .sound .kept .done-right) ∙ eq-eqb (m′ .done) (m′ .tasks) all))
 
       pub tick-over : length choices ≤ i → Ticked memory words choices memory′ words″
       tick-over h = over (cycles-none its-graph i e (drop i choices) (ap length (drop-of-length-le choices h)))
@@ -190,13 +175,12 @@ module _ {memory words choices : List ℕ} (tick : TickTurn memory words choices
       pub next-turn : ChoiceTurn (parts memory′) m′ i (getD choices i 0)
       next-turn =
           record {
-            turn = record { sound = u .sound; worker = rw (u .grown .same-workers, ← tick .one-each) l; room = room-now };
+            turn = record { sound = u .sound; worker = rw (u .grown .same-workers, ← tick .one-each) l };
             chosen = rw (u .grown .same-workers) choice-inside;
           }
 
       pub idle-turn : getD (parts memory′ .ends) (size-at i) 0 ≡ 0 → IdleTurn memory′ words′ i (getD choices i 0) t
-      idle-turn empty =
-          record { size = sized; turn = next-turn; empty = empty; waited = waited; head-in-ring = head-in-ring; counted = u .counted }
+      idle-turn empty = record { turn = next-turn; empty = empty; addable = addable }
 
       onward : {memory″ words″ : List ℕ} {t″ : Tally} → (m′ .done ≡ m′ .tasks → ⊥) →
           Cycled (parts memory′) m′ i (getD choices i 0) (parts memory″) (numbers-at (numbers-in words″) (i + 1) t″) →
@@ -210,7 +194,7 @@ module _ {memory words choices : List ℕ} (tick : TickTurn memory words choices
                 u .shows
                 ∙ ap (λ (cs : List ℕ). cycles its-graph i cs e) (drop-cons choices i 0 l)
                 ∙ cycles-onward its-graph i e (getD choices i 0) (drop (suc i) choices)
-                (finished-is (u .sound) ∙ ne-eqb (m′ .done) (m′ .tasks) unfinished)
+                (finished-shown (parts memory′) m′ (u .sound .kept .done-right) ∙ ne-eqb (m′ .done) (m′ .tasks) unfinished)
                 ∙ rw (c .shows, add-one, same-plan);
             sound = c .sound;
             grown = grown-then (u .grown) (c .grown);

@@ -9,7 +9,7 @@ wide : (s : tie.Start) → Wide (s .args .counters)
 wide s = omega (arith, s .good .0)
 
 returns : tie.Need-returns
-returns c = too-small _ _ _ (c .if1 .taken)
+returns c = too-small _ _ (c .if1 .taken)
 
 numbers-requires : tie.Need-numbers-requires
 numbers-requires c κs = search needs

@@ -7,12 +7,12 @@ use Rattle.model.specs.Questions.{accepted, first-no}
 use Rattle.model.specs.Machine.{grants, call-answer}
 use Rattle.memory.specs.declared.Job.{Job}
 use Rattle.memory.specs.Jobs.{lent, job-state}
-use Rattle.engine.specs.Answers.{answer-of}
-use Rattle.engine.specs.Asked.{grant-asked}
-use Rattle.engine.proofs.Answers.{refusing}
-use Rattle.engine.proofs.Asking.{grant-asking}
+use Rattle.call_questions.specs.Answers.{answer-of}
+use Rattle.call_questions.specs.Asked.{grant-asked}
+use Rattle.call_questions.proofs.Answers.{refusing}
+use Rattle.call_questions.proofs.Asking.{grant-asking}
 use Rattle.engine.proofs.Moving.{refused-moves}
-use Rattle.engine.proofs.Granting.{begun-fits, grantable, granted-moves}
+use Rattle.engine.proofs.Granting.{openable, grantable, granted-moves}
 use Rattle.engine.proofs.grant.Statement.{statement}
 use Rattle.engine.proofs.grant.Tie as tie
 
@@ -41,14 +41,14 @@ allot-requires c κs =
 open-quantum-requires : tie.Need-open-quantum-requires
 open-quantum-requires c κs =
     let accepting = c .before .before .before .before in
-    begun-fits _ (entry (accepting .before .before) .pre .2) (asked accepting) (c .before .allot .ensures)
+    openable _ (entry (accepting .before .before) .pre .2) (asked accepting) (c .before .allot .ensures)
 
 returns-2 : tie.Need-returns-2
 returns-2 c =
     let accepting = c .before .before .before .before .before in
     let asking = accepting .before .before in (
       answered asking,
-      rw (c .open-quantum .ensures) (granted-moves _ (entry asking .pre .2) (asked accepting) (c .before .before .allot .ensures)),
+      granted-moves _ (entry asking .pre .2) (asked accepting) (c .before .before .allot .ensures) (c .open-quantum .ensures),
     )
 
 pub grant-spec : {M : Type 1} → statement M

@@ -9,10 +9,10 @@ use Rattle.model.specs.Machine.{ticks, call-answer}
 use Rattle.memory.specs.declared.Job.{Job}
 use Rattle.memory.specs.Jobs.{lent, job-state}
 use Rattle.memory.proofs.Words.{same-tail}
-use Rattle.engine.specs.Answers.{answer-of}
-use Rattle.engine.specs.Asked.{tick-asked}
-use Rattle.engine.proofs.Answers.{refusing}
-use Rattle.engine.proofs.Asking.{tick-asking}
+use Rattle.call_questions.specs.Answers.{answer-of}
+use Rattle.call_questions.specs.Asked.{tick-asked}
+use Rattle.call_questions.proofs.Answers.{refusing}
+use Rattle.call_questions.proofs.Asking.{tick-asking}
 use Rattle.engine.proofs.Known.{words-fit}
 use Rattle.engine.proofs.Moving.{refused-moves}
 use Rattle.engine.proofs.Ticking.{tick-turn, countable, worked-tick, idle-tick}

@@ -5,7 +5,7 @@ use borrow.Author.Tests.{eq-eqb}
 use mathlib.Core.Path.{ap, _∙_}
 use Rattle.model.specs.Questions.{answer-number}
 use Rattle.model.specs.Examples.{plan-a-begins}
-use Rattle.plan.specs.Answers.{passes}
+use Rattle.plan_fields.specs.Answers.{passes}
 use Rattle.job_examples.proofs.Calls.{onward, begun, refused-14, still-fresh}
 use Rattle.job_examples.proofs.contracts_alone.Statement.{statement}
 use Rattle.job_examples.proofs.contracts_alone.Tie as tie

@@ -2,7 +2,7 @@
 -- Assumes nothing.
 use borrow.Author.Needs.{needs}
 use mathlib.Core.Path.{sym, _∙_}
-use Rattle.plan.proofs.Asked.{passes-is}
+use Rattle.plan_fields.proofs.Answers.{passes-is}
 use Rattle.job_examples.proofs.Calls.{begun}
 use Rattle.job_examples.proofs.example.Statement.{statement}
 use Rattle.job_examples.proofs.example.Tie as tie

@@ -8,8 +8,8 @@ use Prim.Native.Nat.{ℕ, _-_, _^_, _<_}
 use denote.Ref.{now}
 use lib.ListN.{length}
 use Rattle.engine.specs.Reached.{IsJob}
-use Rattle.log.specs.declared.Entry.the-variants.{Grant, Tick}
-use Rattle.log.proofs.Entries.{ReadAt, grant-inside, tick-inside}
+use Rattle.log_reader.specs.declared.Entry.the-variants.{Grant, Tick}
+use Rattle.log_reader.proofs.Entries.{ReadAt, grant-inside, tick-inside}
 use Rattle.job_examples.proofs.Calls.{onward}
 use Rattle.job_examples.proofs.played.Statement.{statement}
 use Rattle.job_examples.proofs.played.Tie as tie

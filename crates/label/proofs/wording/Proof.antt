@@ -32,7 +32,7 @@ returns c =
     let at = c .before in
     let found = sym (ap found-stretch (at .enum-told .given .1)) ∙ at .before .before .find .ensures .1 in
     let answer = sym (ap found-answer (at .enum-told .given .1)) ∙ at .before .before .find .ensures .0 in
-    (part-bytes _ _ 0 0 found, (part-place _ _ 0 0 found _ _, ap answer-number answer))
+    record { bytes = part-bytes _ _ 0 0 found; place = part-place _ _ 0 0 found _ _; numbered = ap answer-number answer }
 
 add-end : tie.Need-add-end
 add-end c =
@@ -55,7 +55,7 @@ returns-2 c =
     let at = c .before .before in
     let found = sym (ap found-stretch (at .found .given .1)) ∙ at .before .before .find .ensures .1 in
     let answer = sym (ap found-answer (at .found .given .1)) ∙ at .before .before .find .ensures .0 in
-    (part-bytes _ _ _ _ found, (part-place _ _ _ _ found _ _, ap answer-number answer))
+    record { bytes = part-bytes _ _ _ _ found; place = part-place _ _ _ _ found _ _; numbered = ap answer-number answer }
 
 pub wording-spec : {M : Type 1} → statement M
 wording-spec =

@@ -12,10 +12,10 @@ use Rattle.model.specs.Log.{refusals-in}
 use Rattle.memory.specs.declared.Job.{Job}
 use Rattle.memory.specs.Jobs.{lent}
 use Rattle.engine.specs.Reached.{IsJob}
-use Rattle.engine.specs.Answers.{answer-of}
-use Rattle.log.specs.declared.Entry.the-variants.{Grant, Tick, Broken, End}
+use Rattle.call_questions.specs.Answers.{answer-of}
+use Rattle.log_reader.specs.declared.Entry.the-variants.{Grant, Tick, Broken, End}
 use Rattle.log.specs.declared.LogAnswer.the-variants.{Whole, BrokenEntry}
-use Rattle.log.proofs.Entries.{ReadAt, grant-inside, tick-inside, entries-read, choices-read}
+use Rattle.log_reader.proofs.Entries.{ReadAt, grant-inside, tick-inside, entries-read, choices-read}
 use Rattle.log.proofs.Running.{SoFar, starts, still-job, few-more, one-more, ends-here}
 use Rattle.log.proofs.run.Statement.{statement}
 use Rattle.log.proofs.run.Tie as tie

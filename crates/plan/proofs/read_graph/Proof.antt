@@ -3,7 +3,7 @@ use borrow.Author.Needs.{needs}
 use borrow.Author.Tests.{not-true, not-false}
 use mathlib.Core.Path.{_≡_, refl, sym, _∙_}
 use mathlib.Core.Bool.{true}
-use Rattle.plan.specs.Answers.{answer-of, passes}
+use Rattle.plan_fields.specs.Answers.{answer-of, passes}
 use Rattle.plan.proofs.Answered.{right-refusal, first-due, tasks-refused, refused-9, refused-10, accepted-whole}
 use Rattle.plan.proofs.read_graph.Statement.{statement}
 use Rattle.plan.proofs.read_graph.Tie as tie

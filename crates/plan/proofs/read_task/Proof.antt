@@ -4,7 +4,7 @@ use mathlib.Core.Path.{_≡_, sym, _∙_}
 use Prim.Native.Nat.{_<_}
 use native.Mathlib.Omega.{arith}
 use mathlib.Core.Bool.{true}
-use Rattle.plan.specs.Answers.{answer-of, passes}
+use Rattle.plan_fields.specs.Answers.{answer-of, passes}
 use Rattle.plan.proofs.Steps.{read-refused, read-passed, first-small, second-small}
 use Rattle.plan.proofs.Stores.{fields-stored}
 use Rattle.plan.proofs.read_task.Statement.{statement}

@@ -5,7 +5,7 @@ use native.Mathlib.Omega.{arith}
 use borrow.Author.Needs.{needs}
 use Rattle.memory.specs.Parts.{parts}
 use Rattle.plan.specs.Contracts.{Due}
-use Rattle.plan.proofs.Asked.{passes-is}
+use Rattle.plan_fields.proofs.Answers.{passes-is}
 use Rattle.plan.proofs.Steps.{tasks-refused, tasks-all}
 use Rattle.plan.proofs.read_tasks.Statement.{statement}
 use Rattle.plan.proofs.read_tasks.Tie as tie

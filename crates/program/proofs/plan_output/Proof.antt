@@ -31,7 +31,7 @@ run-requires c κs =
 ran-output-requires : tie.Need-ran-output-requires
 ran-output-requires c κs =
     let asked = c .before .before .before .before .before in
-    (_, job-left (asked .before .before .accept .ensures .1) (yes asked) (c .before .run .ensures .1 .1))
+    (_, job-left (asked .before .before .accept .ensures .1) (yes asked) (c .before .run .ensures .1))
 
 returns-2 : tie.Need-returns-2
 returns-2 c =
@@ -39,7 +39,7 @@ returns-2 c =
     let asked = ran .before .before .before .before in
     let told = ran .run .ensures in
     after-plan _ _ _ (yes asked)
-    (log-printed (asked .before .before .accept .ensures .1) (yes asked) (told .1 .1) (told .1 .0) (told .0) (c .ran-output .ensures))
+    (log-printed (asked .before .before .accept .ensures .1) (yes asked) (told .1) (told .0) (c .ran-output .ensures))
 
 pub plan-output-spec : {M : Type 1} → statement M
 plan-output-spec =

@@ -15,14 +15,14 @@ returns : tie.Need-returns
 returns c =
     let s = c .before .before .before .before .before .before .before .before in
     let called = c .before .before .before .before .before .write-line in
-    line-put _ (wide s) _ _ (called .result) _ (s .pre) (called .ensures .1 .0) (called .ensures .1 .1)
+    line-put _ (wide s) _ (s .pre) (called .ensures)
     (ap line-length (c .before .size .given .1))
 
 returns-2 : tie.Need-returns-2
 returns-2 c =
     let s = c .before .before .before .before .before .before .before in
     let called = c .before .before .before .before .write-line in
-    line-put _ (wide s) _ _ (called .result) _ (s .pre) (called .ensures .1 .0) (called .ensures .1 .1)
+    line-put _ (wide s) _ (s .pre) (called .ensures)
     (ap line-length (c .enum-told .given .1))
 
 pub put-line-spec : {M : Type 1} → statement M

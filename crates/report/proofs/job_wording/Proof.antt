@@ -7,8 +7,7 @@ use Rattle.report.proofs.job_wording.Tie as tie
 returns : tie.Need-returns
 returns c =
     let same = c .before .before .number-of .ensures ∙ c .before .before .before .job-status .ensures in
-    let found = c .wording .ensures in
-    rw (← same) (found .0, (found .1 .0, found .1 .1))
+    rw (← same) (c .wording .ensures)
 
 pub job-wording-spec : {M : Type 1} → statement M
 job-wording-spec =

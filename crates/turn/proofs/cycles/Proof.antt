@@ -12,9 +12,9 @@ use Rattle.memory.specs.Parts.{parts}
 use Rattle.memory.specs.Words.{numbers-in}
 use Rattle.memory.specs.View.{size-at}
 use Rattle.memory.proofs.Regions.{ends-part-at}
-use Rattle.turn.specs.Turns.{numbers-at}
-use Rattle.turn.proofs.Tallying.{growing}
-use Rattle.turn.proofs.Ticking.{Underway, begin, some-left, few-choices, room-now, addable, tick-finished, tick-over}
+use Rattle.tally.specs.Tallies.{numbers-at}
+use Rattle.tally.proofs.Tallying.{growing}
+use Rattle.turn.proofs.Ticking.{Underway, begin, some-left, few-choices, addable, tick-finished, tick-over}
 use Rattle.turn.proofs.Ticking.{work-turn, idle-turn, onward-work, onward-idle}
 use Rattle.turn.proofs.cycles.Statement.{statement}
 use Rattle.turn.proofs.cycles.Tie as tie
@@ -96,7 +96,7 @@ work-cycle-requires c κs =
 add-work-requires : tie.Need-add-work-requires Inv-loop μ-loop
 add-work-requires c κs =
     let at = worked c .before .before in
-    growing (numbers-in (at .loop .words)) (at .loop .w) (at .loop .t) (room-now (entry at .pre) (at .loop .inv .0))
+    growing (addable (entry at .pre) (at .loop .inv .0))
 
 number-requires : tie.Need-number-requires Inv-loop μ-loop
 number-requires c κs = search needs

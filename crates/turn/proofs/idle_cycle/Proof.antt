@@ -9,7 +9,7 @@ use Rattle.memory.specs.Parts.{parts}
 use Rattle.memory.specs.View.{size-at}
 use Rattle.memory.specs.Words.{numbers-in}
 use Rattle.memory.proofs.Regions.{ends-part-at}
-use Rattle.turn.proofs.Tallying.{growing}
+use Rattle.tally.proofs.Tallying.{growing}
 use Rattle.turn.proofs.Cycling.{worker-place, choice-place}
 use Rattle.turn.proofs.Stealing.{robbable}
 use Rattle.turn.proofs.Idling.{idled-mug, idled-nothing, idled-theft}
@@ -40,7 +40,7 @@ element-copy-out-oldest c = search needs
 add-oldest : tie.Need-add-oldest
 add-oldest c =
     let s = entry (c .before .before) in
-    omega (arith, s .pre .head-in-ring, s .pre .turn .turn .room .mugs-fit, c .before .before .before .number .ensures)
+    omega (arith, s .pre .addable .head-in-ring, s .pre .addable .room .mugs-fit, c .before .before .before .number .ensures)
 
 add-oldest-2 : tie.Need-add-oldest-2
 add-oldest-2 c = omega arith
@@ -51,7 +51,7 @@ hand-over-requires c κs = (omega arith, omega (arith, worker-place (entry (c .b
 add-mug-requires : tie.Need-add-mug-requires
 add-mug-requires c κs =
     let s = entry (c .before .before .before .before) in
-    growing (numbers-in (now (s .args .words))) (s .args .w) (s .args .t) (s .pre .turn .turn .room)
+    growing (s .pre .addable)
 
 returns : tie.Need-returns
 returns c =
@@ -85,7 +85,7 @@ element-copy-out-words c = search needs
 add-words : tie.Need-add-words
 add-words c =
     let robbed = c .before .before in
-    omega (arith, entry (robbed .before .before .before .before) .pre .turn .turn .room .successes-fit)
+    omega (arith, entry (robbed .before .before .before .before) .pre .addable .room .successes-fit)
 
 element-write-words : tie.Need-element-write-words
 element-write-words c = search needs

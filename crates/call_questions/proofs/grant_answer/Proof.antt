@@ -1,0 +1,69 @@
+-- `call_questions::grant_answer` meets its contract: on each way out the tests that were made tell the first "no".
+-- The needs that are only searched for are places below 18 and numbers that fit.
+-- Assumes nothing.
+use Prim.Native.Nat.{ℕ}
+use native.Mathlib.Omega.{arith}
+use borrow.Author.Needs.{needs}
+use borrow.Author.Tests.{lt-ltb, le-ltb, le-leb, lt-leb, eq-eqb, ne-eqb}
+use denote.Ref.{now}
+use Rattle.model.specs.Questions.{first-no}
+use Rattle.model.specs.Machine.{quantum-limit}
+use Rattle.memory.specs.Words.{word}
+use Rattle.call_questions.specs.Asked.{grant-asked}
+use Rattle.call_questions.proofs.grant_answer.Statement.{statement}
+use Rattle.call_questions.proofs.grant_answer.Tie as tie
+
+-- past the first two questions, past the first, and the words at the function's entry
+abbrev unopened : tie.Else3 → tie.Else2
+unopened c = c .before .before
+
+abbrev unfinished : tie.Else2 → tie.Else1
+unfinished c = c .before .before
+
+abbrev entry : tie.Else2 → tie.Start
+entry c = unfinished c .before .before .before
+
+abbrev word-at : tie.Else2 → ℕ → ℕ
+word-at c = word (now (entry c .args .words))
+
+returns : tie.Need-returns
+unfolding grant-asked first-no
+returns c = rw (eq-eqb _ _ (c .if1 .taken))
+
+returns-2 : tie.Need-returns-2
+unfolding grant-asked first-no
+returns-2 c = rw (ne-eqb _ _ (c .before .before .if1 .left), ne-eqb _ 0 (c .if2 .taken))
+
+returns-3 : tie.Need-returns-3
+unfolding grant-asked first-no
+returns-3 c =
+    let o = c .before .before in
+    rw (ne-eqb _ _ (unfinished o .if1 .left), eq-eqb _ 0 (o .if2 .left), le-ltb (word-at o 17) quantum-limit (omega arith))
+
+returns-4 : tie.Need-returns-4
+unfolding grant-asked first-no
+returns-4 c =
+    let o = unopened (c .before .before) in
+    rw (
+      ne-eqb _ _ (unfinished o .if1 .left),
+      eq-eqb _ 0 (o .if2 .left),
+      lt-ltb (word-at o 17) quantum-limit (omega arith),
+      lt-leb (entry o .args .g) (word-at o 13) (omega arith),
+    )
+
+returns-5 : tie.Need-returns-5
+unfolding grant-asked first-no
+returns-5 c =
+    let o = unopened (c .before .before) in
+    rw (
+      ne-eqb _ _ (unfinished o .if1 .left),
+      eq-eqb _ 0 (o .if2 .left),
+      lt-ltb (word-at o 17) quantum-limit (omega arith),
+      le-leb (entry o .args .g) (word-at o 13) (omega arith),
+    )
+
+pub grant-answer-spec : {M : Type 1} → statement M
+grant-answer-spec =
+    tie.close
+    (tie.spec (λ c. search needs) (λ c. search needs) returns (λ c. search needs) returns-2 (λ c. search needs) returns-3
+    (λ c. search needs) returns-4 returns-5)

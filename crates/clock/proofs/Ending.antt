@@ -1,0 +1,101 @@
+-- The end of a tick: with the tick counted, and the quantum closed where it ends, the words show the model's state.
+-- One law for each way out.
+-- Assumes nothing.
+use mathlib.Core.Path.{_≡_, refl, sym, _∙_}
+use mathlib.Core.Bool.{true, false, not, and-false}
+use mathlib.Core.List.{List, [], _∷_}
+use Prim.Native.Nat.{ℕ, suc, _+_}
+use native.Mathlib.Numerals.{add-one}
+use native.Mathlib.Omega.{arith}
+use lib.ListN.{length, set}
+use lib.Seq.{getD-set-same, getD-set-other}
+use borrow.Author.Tests.{eq-eqb, ne-eqb}
+use Rattle.model.specs.Tests.{count-set}
+use Rattle.model.specs.Machine.{finished, closes, closed}
+use Rattle.quantum.specs.Closing.{Closed}
+use Rattle.memory.specs.Parts.{parts}
+use Rattle.memory.specs.Words.{word, word-count, numbers-in, open-in}
+use Rattle.memory.specs.View.{view, worked-view}
+use Rattle.memory.specs.Jobs.{lent, job-plan, job-state}
+use Rattle.memory.proofs.Views.{workers-shown, finished-shown}
+use Rattle.memory.proofs.Words.{row-of, by-words}
+use Rattle.clock.specs.Clock.{tick-counted, quantum-ended, TickEnded}
+
+-- the tick counted, and the quantum closed besides, with the next desire
+abbrev pub counted-words : List ℕ → List ℕ
+counted-words words = set words 16 (word words 16 + 1)
+
+abbrev pub closed-words : List ℕ → ℕ → List ℕ
+closed-words words desire = set (set (counted-words words) 13 desire) 15 0
+
+pub counted-other : (words : List ℕ) (place : ℕ) → (place ≡ 16 → ⊥) → word (counted-words words) place ≡ word words place
+counted-other words place ne = getD-set-other words 16 place (word words 16 + 1) 0 ne
+
+-- where the quantum does not end, the tick is counted and nothing else is written
+stays-open : (words : List ℕ) → length words ≡ word-count → open-in words ≡ true → ((memory : List ℕ) →
+    numbers-in words .done ≡ count-set (worked-view (parts memory .pending) (numbers-in words .tasks)) →
+    closes (job-plan (lent memory words)) (tick-counted (lent memory words)) ≡ false) → TickEnded words (counted-words words)
+unfolding job-state quantum-ended job-plan
+stays-open =
+    by-words
+    (λ (l : List ℕ). open-in l ≡ true → ((memory : List ℕ) →
+    numbers-in l .done ≡ count-set (worked-view (parts memory .pending) (numbers-in l .tasks)) →
+    closes (job-plan (lent memory l)) (tick-counted (lent memory l)) ≡ false) → TickEnded l (counted-words l))
+    (λ w is-open unclosed.
+    record {
+      shows = λ memory right. rw (unclosed memory right, is-open, add-one) refl;
+      same-size = refl;
+      same-numbers = refl;
+      same-plan = λ memory. refl;
+    })
+
+module _ (words : List ℕ) (sized : length words ≡ word-count) (is-open : open-in words ≡ true) where
+  -- the job is finished: the quantum never closes
+  pub finished-ended : word (counted-words words) 2 ≡ word (counted-words words) 0 → TickEnded words (counted-words words)
+  unfolding closes job-plan
+  finished-ended all-done =
+      let same : word words 2 ≡ word words 0 =
+      sym (counted-other words 2 (λ e. omega arith)) ∙ all-done ∙ counted-other words 0 (λ e. omega arith) in
+      stays-open words sized is-open
+      (λ memory right. rw (finished-shown (parts memory) (numbers-in words) right, eq-eqb (word words 2) (word words 0) same) refl)
+
+  -- more ticks are due
+  pub unclosed-ended : (word (counted-words words) 16 ≡ word (counted-words words) 12 → ⊥) → TickEnded words (counted-words words)
+  unfolding closes job-plan
+  unclosed-ended more =
+      let ticks : word (counted-words words) 16 ≡ suc (word words 16) =
+      getD-set-same words 16 (word words 16 + 1) 0 (omega arith) ∙ add-one (word words 16) in
+      let its-length : word (counted-words words) 12 ≡ word words 12 = counted-other words 12 (λ e. omega arith) in
+      stays-open words sized is-open
+      (λ memory right.
+      rw (ne-eqb (suc (word words 16)) (word words 12) (λ same. more (ticks ∙ same ∙ sym its-length)))
+      (and-false (not (finished (view (parts memory) (numbers-in words))))))
+
+-- the quantum closes
+pub closed-ended : (words : List ℕ) → length words ≡ word-count → (word (counted-words words) 2 ≡ word (counted-words words) 0 → ⊥) →
+    word (counted-words words) 16 ≡ word (counted-words words) 12 → (desire : ℕ) →
+    Closed (word (counted-words words) 10) (word (counted-words words) 11) (word (counted-words words) 12) (word (counted-words words) 13)
+    (word (counted-words words) 1) (word (counted-words words) 7) desire → TickEnded words (closed-words words desire)
+unfolding job-state quantum-ended closes closed job-plan
+closed-ended words sized undone last desire after =
+    by-words
+    (λ (l : List ℕ). let counted = counted-words l in
+    (word counted 2 ≡ word counted 0 → ⊥) → word counted 16 ≡ word counted 12 →
+    Closed (word counted 10) (word counted 11) (word counted 12) (word counted 13) (word counted 1) (word counted 7) desire →
+    TickEnded l (closed-words l desire))
+    (λ w left end next.
+    record {
+      shows = λ memory right.
+          rw (
+            finished-shown (parts memory) (numbers-in (row-of w)) right,
+            ne-eqb (w 2) (w 0) left,
+            eq-eqb (suc (w 16)) (w 12) (sym (add-one (w 16)) ∙ end),
+            workers-shown,
+            next .next,
+          )
+          refl;
+      same-size = refl;
+      same-numbers = refl;
+      same-plan = λ memory. refl;
+    })
+    words sized undone last after

@@ -1,0 +1,49 @@
+-- The fields of bytes as numbers, and the questions of fields that were read.
+use mathlib.Core.Path.{_≡_}
+use mathlib.Core.Bool.{_&&_}
+use mathlib.Core.List.{List, [], _∷_}
+use Prim.Native.Nat.{ℕ, _+_, _*_}
+use lib.Dec.{leb, eqb}
+use Rattle.model.specs.Questions.{Question, ask}
+use Rattle.model.specs.Plan.{field, used-fields, fields-ok, targets-ok}
+use Rattle.plan_fields.specs.declared.Header.{Header}
+use Rattle.plan_fields.specs.declared.TaskFields.{TaskFields}
+
+-- ---- the fields
+
+-- the fields of five bytes as one number
+pub record HeaderOf (bits : ℕ) (h : Header) : Type 0 where
+  pub form-read : h .form ≡ field 4 36 bits
+  pub responsiveness-read : h .responsiveness ≡ field 3 33 bits
+  pub utilization-read : h .utilization ≡ field 7 26 bits
+  pub quantum-read : h .quantum ≡ field 16 10 bits
+  pub tasks-read : h .tasks ≡ field 10 0 bits + 1
+
+abbrev pub five-bytes : ℕ → ℕ → ℕ → ℕ → ℕ → ℕ
+five-bytes a b c d e = (((a * 256 + b) * 256 + c) * 256 + d) * 256 + e
+
+-- the fields of three bytes as one number
+pub record TaskOf (bits : ℕ) (f : TaskFields) : Type 0 where
+  pub count-read : f .count ≡ field 2 22 bits
+  pub first-read : f .first ≡ field 11 11 bits
+  pub second-read : f .second ≡ field 11 0 bits
+
+abbrev pub three-bytes : ℕ → ℕ → ℕ → ℕ
+three-bytes a b c = (a * 256 + b) * 256 + c
+
+-- ---- the questions of fields that were read
+
+-- 2 to 6
+unfoldable pub field-questions : ℕ → ℕ → ℕ → ℕ → ℕ → ℕ → List Question
+field-questions form responsiveness utilization quantum tasks size =
+    ask (eqb form 1) 2
+    ∷ ask (leb 2 responsiveness) 3
+    ∷ ask (leb 1 utilization && leb utilization 100) 4
+    ∷ ask (leb 1 quantum) 5
+    ∷ ask (eqb size (5 + 3 * tasks)) 6
+    ∷ []
+
+-- 7 and 8 of one task
+unfoldable pub pair-questions : ℕ → ℕ → ℕ → ℕ → ℕ → List Question
+pair-questions n t count first second =
+    ask (fields-ok count first second) 7 ∷ ask (targets-ok n t (used-fields count first second)) 8 ∷ []

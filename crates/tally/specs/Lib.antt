@@ -1,0 +1,2 @@
+-- What the functions of this crate ask and promise.
+pub mod Tallies

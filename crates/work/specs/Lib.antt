@@ -1,0 +1,2 @@
+-- What a work cycle asks and promises.
+pub mod Works
