@@ -1,17 +1,15 @@
 -- The questions that the code asks of words are the model's, asked of the state that the job shows.
 -- Assumes nothing.
-use mathlib.Core.Path.{_≡_, refl, _∙_}
+use mathlib.Core.Path.{_≡_, refl}
 use mathlib.Core.Bool.{Bool, true, false, not}
 use mathlib.Core.List.{List}
 use Prim.Native.Nat.{ℕ}
-use lib.Dec.{eqb}
 use Rattle.model.specs.Tests.{count-set}
 use Rattle.model.specs.Questions.{first-no}
-use Rattle.model.specs.Machine.{finished, no-quantum-open, grant-questions, tick-questions, grants, ticks, call-answer}
+use Rattle.model.specs.Machine.{no-quantum-open, grant-questions, tick-questions, grants, ticks, call-answer}
 use Rattle.memory.specs.declared.Job.{Job}
-use Rattle.memory.specs.Parts.{Parts}
-use Rattle.memory.specs.Words.{Numbers, open-in, ticks-in}
-use Rattle.memory.specs.View.{view, worked-view}
+use Rattle.memory.specs.Words.{open-in, ticks-in}
+use Rattle.memory.specs.View.{worked-view}
 use Rattle.memory.specs.Jobs.{job-parts, job-numbers, quantum-view, job-state}
 use Rattle.memory.proofs.Views.{finished-shown, workers-shown}
 use Rattle.call_questions.specs.Asked.{grant-asked, tick-asked}

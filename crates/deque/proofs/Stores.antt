@@ -5,10 +5,10 @@ use Prim.Native.Nat.{ℕ, _+_, _-_, _≤_, _<_}
 use native.Mathlib.Omega.{arith}
 use lib.ListN.{getD, set}
 use Rattle.memory.specs.declared.Deque.{Deque}
-use Rattle.memory.specs.Parts.{parts, with-next, with-pending}
+use Rattle.memory.specs.Parts.{parts}
 use Rattle.memory.proofs.Regions.{pending-at, store-pending, store-next}
 use Rattle.deque.specs.Releasing.{AllReleasable, Releasable, Released, AllReleased}
-use Rattle.deque.proofs.Releases.{released-none, released-later, released-now, second-releasable, first-releasable, all-released}
+use Rattle.deque.proofs.Releases.{released-none, released-later, released-now, first-releasable, all-released}
 
 module _ (memory : List ℕ) {task : ℕ} {deque : Deque} (r : Releasable (parts memory) task deque) {at : ℕ} (same : at ≡ task) where
   inside : at < 1024

@@ -1,7 +1,7 @@
 // The deques of all workers, in place in a job's memory, over one shared part of links. A deque is a front and a size, and what the links
 // hold past the size is ignored.
 ghost use mathlib.Core.Path.{_≡_};
-ghost use Prim.Native.Nat.{_≤_, _<_};
+ghost use Prim.Native.Nat.{_<_};
 ghost use Rattle.model.specs.Machine.{stolen-count};
 ghost use Rattle.memory.specs.Parts.{parts, parts-before, parts-after};
 ghost use Rattle.memory.specs.View.{ends-at, put-part};

@@ -1,23 +1,19 @@
 -- A grant of a job that calls reach: what the crate `allot` asks holds, and what it and the quantum's opening leave is the model's grant.
 -- Assumes nothing.
 use mathlib.Core.Path.{_≡_, refl, sym, _∙_, ap, subst}
-use mathlib.Core.Bool.{Bool, true, false, cond}
 use mathlib.Core.List.{List}
-use Prim.Native.Nat.{ℕ, suc, _+_, _<_}
+use Prim.Native.Nat.{ℕ}
 use native.Mathlib.Omega.{arith}
-use native.Mathlib.Numerals.{add-one}
-use lib.Dec.{eqb}
-use lib.ListN.{length, set}
+use lib.ListN.{length}
 use Rattle.model.specs.Questions.{accepted, first-no}
 use Rattle.model.specs.Plan.{Plan}
-use Rattle.model.specs.Machine.{quantum-limit, Execution, State, opened, Call, grants, call-answer, step}
+use Rattle.model.specs.Machine.{Call, grants, call-answer, step}
 use Rattle.model.specs.Machine as machine
 use Rattle.laws.proofs.Accepted.{GrantAccepted, grant-accepted}
 use Rattle.memory.specs.declared.Job.{Job}
 use Rattle.memory.specs.Parts.{parts}
-use Rattle.memory.specs.Words.{word-count, Numbers, numbers-in, desire-in, started-in, begun-in}
+use Rattle.memory.specs.Words.{Numbers, numbers-in}
 use Rattle.memory.specs.Graphs.{graph}
-use Rattle.memory.specs.View.{view}
 use Rattle.memory.specs.Sound.{Kept}
 use Rattle.memory.specs.Jobs.{lent, job-plan, job-state}
 use Rattle.memory.proofs.Views.{workers-shown}

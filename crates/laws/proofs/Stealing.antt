@@ -1,6 +1,6 @@
 -- What a steal takes of a deque, and what it leaves: some of its tasks, and some. This is all that the laws and the code's proofs know of
 -- the number of stolen tasks. Assumes nothing.
-use mathlib.Core.Path.{_≡_, sym, ap, _∙_}
+use mathlib.Core.Path.{_≡_}
 use mathlib.Core.List.{List, _++_}
 use Prim.Native.Nat.{ℕ, _-_, _≤_, _<_}
 use native.Mathlib.Omega.{arith}

@@ -11,7 +11,7 @@ use lib.ListN.{length, getD, take, drop, length-drop, drop-of-length-le}
 use lib.Seq.{drop-cons, drop-drop}
 use borrow.Author.Tests.{ltb-true, ltb-false, leb-true, le-leb}
 use Rattle.model.specs.Log.{Entries, entry-then, choices-announced, entry-whole, entry-call, entries-up-to, entries}
-use Rattle.model.specs.Machine.{grants, ticks}
+use Rattle.model.specs.Machine.{ticks}
 use Rattle.log_reader.specs.declared.Entry.{Entry}
 use Rattle.log_reader.specs.declared.Entry.the-variants.{Grant, Tick, Broken, End}
 use Rattle.log_reader.specs.Reading.{begun-by, entry-of, past-entry, past, then-entries}

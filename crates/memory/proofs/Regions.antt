@@ -1,13 +1,13 @@
 -- A store in a region is a store in the region's list; one outside leaves it. So of each part of the memory.
-use mathlib.Core.Path.{_≡_, refl, _∙_}
+use mathlib.Core.Path.{_≡_, _∙_}
 use mathlib.Core.List.{List}
-use Prim.Native.Nat.{ℕ, _+_, _-_, _*_, _≤_, _<_}
+use Prim.Native.Nat.{ℕ, _+_, _-_, _≤_, _<_}
 use native.Mathlib.Omega.{arith}
-use lib.ListN.{length, getD, set, take, drop, length-take, length-drop}
+use lib.ListN.{length, getD, set, drop, length-drop}
 use lib.Seq.{drop-set-add, take-set-lt, drop-set-lt, take-set-le, getD-take, getD-drop, length-take-le, getD-set-other, set-getD}
 use Rattle.memory.specs.declared.Deque.{Deque}
 use Rattle.memory.specs.View.{front-at, size-at, ends-at, put-part}
-use Rattle.memory.specs.Parts.{region, Parts, parts, with-next, with-pending, with-ends}
+use Rattle.memory.specs.Parts.{region, parts, with-next, with-pending, with-ends}
 
 -- ---- a region, over any offset and size
 

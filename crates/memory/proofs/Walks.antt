@@ -4,15 +4,12 @@ use mathlib.Core.Bool.{Bool, true, false, cond}
 use mathlib.Core.List.{List, _∷_}
 use Prim.Native.Nat.{ℕ, zero, suc, _+_, _-_, _≤_, _<_}
 use native.Mathlib.Omega.{arith}
-use native.Mathlib.Nat.{zero-add, suc-add}
 use native.Mathlib.Numerals.{add-one}
-use lib.Dec.{eqb, ltb}
-use lib.ListN.{length, getD, set, take, drop}
+use lib.Dec.{eqb}
+use lib.ListN.{length, getD, set}
 use lib.Seq.{getD-set-same, getD-set-other}
-use borrow.Author.Tests.{ltb-true, eqb-false}
-use Rattle.model.specs.Tests.{every}
+use borrow.Author.Tests.{eqb-false}
 use Rattle.laws.specs.Invariants.{occurrences}
-use Rattle.lists.proofs.Tests.{and-left, and-right}
 use Rattle.memory.specs.View.{walk}
 
 -- a task that stands nowhere in a deque is not its front, and stands nowhere in the rest

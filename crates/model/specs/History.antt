@@ -1,10 +1,10 @@
 -- Document 01, "History": made from the plan and the calls' arguments alone, it reads nothing from a record.
-use mathlib.Core.Bool.{Bool, true, false, cond}
+use mathlib.Core.Bool.{Bool, cond}
 use mathlib.Core.List.{List, [], _∷_, _++_}
 use Prim.Native.Nat.{ℕ}
 use Rattle.model.specs.Questions.{by-answer}
 use Rattle.model.specs.Plan.{Plan}
-use Rattle.model.specs.Machine.{State, allotment, fresh, grant, tick, ticked, closes, efficient, satisfied}
+use Rattle.model.specs.Machine.{State, fresh, grant, tick, ticked, closes, efficient, satisfied}
 use Rattle.model.specs.Machine.{Cycle, works-on, mugs-deque, steals-from, steals-nothing, cycles-made, Call, grants, ticks}
 use Rattle.model.specs.Machine.{call-answer}
 

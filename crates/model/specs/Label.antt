@@ -1,10 +1,10 @@
 -- Document 01, "Day log and label": which stretch of a label sheet (wording sheet) words a status.
-use mathlib.Core.Bool.{true, false, cond}
+use mathlib.Core.Bool.{cond}
 use mathlib.Core.List.{List, [], _∷_}
 use Prim.Native.Nat.{ℕ, suc, _+_}
 use lib.Dec.{eqb, ltb}
 use lib.ListN.{length, getD, take, drop}
-use Rattle.model.specs.Questions.{Answer, accepted, ask, first-no}
+use Rattle.model.specs.Questions.{Answer, ask, first-no}
 
 -- a stretch of a sheet: where it starts, and how many bytes it has
 pub record Stretch : Type 0 where

@@ -1,10 +1,10 @@
 -- Document 01, "Day log and label": the log's entries, and what running them gives.
 use mathlib.Core.Bool.{Bool, true, false, cond}
-use mathlib.Core.List.{List, [], _∷_, _++_}
+use mathlib.Core.List.{List, [], _∷_}
 use Prim.Native.Nat.{ℕ, zero, suc, _+_, _-_}
 use lib.Dec.{leb, ltb}
 use lib.ListN.{length, take, drop}
-use Rattle.model.specs.Questions.{Answer, accepted, refused, ask}
+use Rattle.model.specs.Questions.{Answer, accepted, refused}
 use Rattle.model.specs.Plan.{Plan}
 use Rattle.model.specs.Machine.{State, Call, grants, ticks, call-answer, step}
 

@@ -1,7 +1,7 @@
 -- Tests and list functions that the definitions are said with. Nothing of document 01 is in here.
 -- `cond b x y` is x where the test b holds and else y; `leb`, `ltb`, `eqb` are ≤, < and ≡ on numbers as tests; `getD xs i d` is what
 -- stands at i in xs, and d past its end; `set xs i x` is xs with x at i. All these are the library's.
-use mathlib.Core.Bool.{Bool, true, false, cond, not, _&&_}
+use mathlib.Core.Bool.{Bool, true, false, cond, _&&_}
 use mathlib.Core.List.{List, [], _∷_, _++_}
 use Prim.Native.Nat.{ℕ, zero, suc, _+_}
 use lib.Dec.{eqb}

@@ -1,13 +1,13 @@
 -- What the inner functions ask and promise, over plain lists and numbers.
 use mathlib.Core.Path.{_≡_}
 use mathlib.Core.Bool.{Bool, cond, not, _&&_}
-use mathlib.Core.List.{List, [], _∷_, flatMap}
+use mathlib.Core.List.{List, flatMap}
 use Prim.Native.Nat.{ℕ, _+_, _*_, _≤_, _<_}
 use lib.Dec.{leb, ltb, eqb}
 use lib.ListN.{length, getD, set, replicate}
 use Rattle.model.specs.Tests.{below, keep, member}
-use Rattle.model.specs.Questions.{Question, accepted, refused, ask, first-no}
-use Rattle.model.specs.Plan.{field, header, task-count, first-field, second-field, used-fields, successor-fields, fields-ok, targets-ok}
+use Rattle.model.specs.Questions.{accepted, refused, first-no}
+use Rattle.model.specs.Plan.{header, task-count, first-field, second-field, successor-fields}
 use Rattle.model.specs.Plan.{task-questions, header-questions, plan-answer}
 use Rattle.memory.specs.Parts.{Parts, memory-size}
 use Rattle.plan_fields.specs.declared.Header.{Header}

@@ -2,14 +2,14 @@
 -- model's step, and the numbers of predecessors are right again. So first of the parts, then of the memory that the code reads and writes.
 use mathlib.Core.Path.{_≡_, refl, sym, ap, _∙_}
 use mathlib.Core.Bool.{Bool, true, false}
-use mathlib.Core.List.{List, [], _∷_, _++_, tail, List·Memᴰ, List·Memᴰ·head, List·Memᴰ·tail}
+use mathlib.Core.List.{List, [], _∷_, _++_, tail, List·Memᴰ}
 use Prim.Native.Nat.{ℕ, zero, suc, _+_, _-_, _≤_, _<_}
 use native.Mathlib.Omega.{arith}
 use lib.Dec.{eqb, leb}
 use lib.ListN.{length, getD, set, length-set}
 use lib.Seq.{getD-set-same, getD-set-other}
 use borrow.Author.Tests.{eq-eqb, ne-eqb, lt-leb}
-use Rattle.model.specs.Tests.{keep, member}
+use Rattle.model.specs.Tests.{member}
 use Rattle.model.specs.Plan.{Graph, tasks, successors-of}
 use Rattle.model.specs.Machine.{Execution, deque-of, ready, completed, released, work-cycle}
 use Rattle.laws.specs.Invariants.{occurrences, Placed}

@@ -11,32 +11,8 @@ entry d =
     let read = d .before .before .before in
     read .before .before .before .before .before
 
-element-copy-out-workers : tie.Need-element-copy-out-workers
-element-copy-out-workers c = search needs
-
-element-copy-out-head : tie.Need-element-copy-out-head
-element-copy-out-head c = search needs
-
-element-copy-out-before : tie.Need-element-copy-out-before
-element-copy-out-before c = search needs
-
-element-copy-out-started : tie.Need-element-copy-out-started
-element-copy-out-started c = search needs
-
 withdraw-requires : tie.Need-withdraw-requires
 withdraw-requires c κs = withdrawable (c .before .before .before .before .before .pre)
-
-clear-requires : tie.Need-clear-requires
-clear-requires c κs = search needs
-
-element-write-words : tie.Need-element-write-words
-element-write-words c = search needs
-
-element-write-words-2 : tie.Need-element-write-words-2
-element-write-words-2 c = search needs
-
-element-write-words-3 : tie.Need-element-write-words-3
-element-write-words-3 c = search needs
 
 returns : tie.Need-returns
 returns c =
@@ -49,9 +25,6 @@ returns-2 c =
     granted-nothing (entry d .pre) (d .before .before .withdraw .ensures) (d .clear .ensures)
     (c .before .if1 .left) (c .if2 .taken) refl
 
-put-requires : tie.Need-put-requires
-put-requires c κs = search needs
-
 returns-3 : tie.Need-returns-3
 returns-3 c =
     let d = c .before .before .before .before in
@@ -63,16 +36,16 @@ pub allot-spec : {M : Type 1} → statement M
 allot-spec =
     tie.close
     (tie.spec
-    element-copy-out-workers
-    element-copy-out-head
-    element-copy-out-before
-    element-copy-out-started
+    (λ c. search needs)
+    (λ c. search needs)
+    (λ c. search needs)
+    (λ c. search needs)
     withdraw-requires
-    clear-requires
-    element-write-words
-    element-write-words-2
-    element-write-words-3
+    (λ c κs. search needs)
+    (λ c. search needs)
+    (λ c. search needs)
+    (λ c. search needs)
     returns
     returns-2
-    put-requires
+    (λ c κs. search needs)
     returns-3)

@@ -6,27 +6,12 @@ use Rattle.allot.proofs.Ring.{no-move, ends-moved, join-empty, join-fil
 use Rattle.allot.proofs.join.Statement.{statement}
 use Rattle.allot.proofs.join.Tie as tie
 
-deque-at-requires : tie.Need-deque-at-requires
-deque-at-requires c κs = search needs
-
 returns : tie.Need-returns
 returns c = (
   join-empty (c .before .before .before .before .pre)
       (sym (ap (λ (d : Deque). d .size) (c .before .before .deque-at .ensures)) ∙ c .if1 .taken),
   no-move,
 )
-
-add-place : tie.Need-add-place
-add-place c = search needs
-
-add-place-2 : tie.Need-add-place-2
-add-place-2 c = search needs
-
-put-requires : tie.Need-put-requires
-put-requires c κs = search needs
-
-add-result : tie.Need-add-result
-add-result c = search needs
 
 returns-2 : tie.Need-returns-2
 returns-2 c =
@@ -40,4 +25,4 @@ returns-2 c =
 pub join-spec : {M : Type 1} → statement M
 join-spec =
     tie.close
-    (tie.spec deque-at-requires returns add-place add-place-2 put-requires add-result returns-2)
+    (tie.spec (λ c κs. search needs) returns (λ c. search needs) (λ c. search needs) (λ c κs. search needs) (λ c. search needs) returns-2)

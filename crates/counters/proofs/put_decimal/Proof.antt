@@ -8,30 +8,15 @@ use Rattle.counters.proofs.Put.{has-room, no-room}
 use Rattle.counters.proofs.put_decimal.Statement.{statement}
 use Rattle.counters.proofs.put_decimal.Tie as tie
 
-count-digits-requires : tie.Need-count-digits-requires
-count-digits-requires c κs = search needs
-
 returns : tie.Need-returns
 returns c =
     let s = c .before .before .before .args in
     no-room (s .at) (decimal (s .n)) (s .buffer .now) (omega arith)
 
-sub-if2 : tie.Need-sub-if2
-sub-if2 c = search needs
-
 returns-2 : tie.Need-returns-2
 returns-2 c =
     let s = c .before .before .before .before .args in
     no-room (s .at) (decimal (s .n)) (s .buffer .now) (omega arith)
-
-put-digits-requires : tie.Need-put-digits-requires
-put-digits-requires c κs = search needs
-
-add-result : tie.Need-add-result
-add-result c = search needs
-
-same-length : tie.Need-same-length
-same-length c = search needs
 
 returns-3 : tie.Need-returns-3
 returns-3 c =
@@ -45,11 +30,11 @@ pub put-decimal-spec : {M : Type 1} → statement M
 put-decimal-spec =
     tie.close
     (tie.spec
-    count-digits-requires
+    (λ c κs. search needs)
     returns
-    sub-if2
+    (λ c. search needs)
     returns-2
-    put-digits-requires
-    add-result
-    same-length
+    (λ c κs. search needs)
+    (λ c. search needs)
+    (λ c. search needs)
     returns-3)

@@ -55,26 +55,11 @@ more c =
     ended-at _ _ _ _ _ _ (start-more c .pre) (omega (arith, c .before .before .before .before .count-digits .ensures))
     (c .before .before .put-digits .ensures)
 
-cast-buffer : tie.Need-cast-buffer
-cast-buffer c = search needs
-
-add-buffer : tie.Need-add-buffer
-add-buffer c = search needs
-
 slice-write-buffer : tie.Need-slice-write-buffer
 slice-write-buffer c = omega (arith, one-inside c)
 
-add-next : tie.Need-add-next
-add-next c = search needs
-
 slice-write-buffer-2 : tie.Need-slice-write-buffer-2
 slice-write-buffer-2 c = rw length-set (one-inside c)
-
-add-result : tie.Need-add-result
-add-result c = search needs
-
-same-length : tie.Need-same-length
-same-length c = search needs
 
 returns : tie.Need-returns
 returns c = (one c .after, one c .bytes)
@@ -85,23 +70,11 @@ put-pair-requires c κs =
     let most = c .before .if2 .taken in
     (most, omega (arith, inside s, two-long (s .args .n) (c .before .before .if1 .left) most))
 
-add-next-2 : tie.Need-add-next-2
-add-next-2 c = search needs
-
 slice-write-buffer-3 : tie.Need-slice-write-buffer-3
 slice-write-buffer-3 c = pair-there c .inside
 
-add-result-2 : tie.Need-add-result-2
-add-result-2 c = search needs
-
-same-length-2 : tie.Need-same-length-2
-same-length-2 c = search needs
-
 returns-2 : tie.Need-returns-2
 returns-2 c = (pair-there c .after, pair-there c .bytes)
-
-count-digits-requires : tie.Need-count-digits-requires
-count-digits-requires c κs = search needs
 
 put-digits-requires : tie.Need-put-digits-requires
 put-digits-requires c κs =
@@ -116,9 +89,6 @@ slice-write-buffer-4 c = more c .inside
 add-result-3 : tie.Need-add-result-3
 add-result-3 c = omega (arith, more c .after, start-more c .pre)
 
-same-length-3 : tie.Need-same-length-3
-same-length-3 c = search needs
-
 returns-3 : tie.Need-returns-3
 returns-3 c = (more c .after, more c .bytes)
 
@@ -126,24 +96,24 @@ pub put-field-spec : {M : Type 1} → statement M
 put-field-spec =
     tie.close
     (tie.spec
-    cast-buffer
-    add-buffer
+    (λ c. search needs)
+    (λ c. search needs)
     slice-write-buffer
-    add-next
+    (λ c. search needs)
     slice-write-buffer-2
-    add-result
-    same-length
+    (λ c. search needs)
+    (λ c. search needs)
     returns
     put-pair-requires
-    add-next-2
+    (λ c. search needs)
     slice-write-buffer-3
-    add-result-2
-    same-length-2
+    (λ c. search needs)
+    (λ c. search needs)
     returns-2
-    count-digits-requires
+    (λ c κs. search needs)
     put-digits-requires
     add-next-3
     slice-write-buffer-4
     add-result-3
-    same-length-3
+    (λ c. search needs)
     returns-3)

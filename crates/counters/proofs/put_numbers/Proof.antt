@@ -106,62 +106,32 @@ lined10 c =
     rw (call .ensures .0, call .ensures .1)
     (lined-more _ _ (start10 c .pre .1) _ _ _ (lined9 (c .before .before .before .before)) (omega (arith, start10 c .pre .0)))
 
-array-read-put-field : tie.Need-array-read-put-field
-array-read-put-field c = search needs
-
 put-field-requires : tie.Need-put-field-requires
 put-field-requires c κs = more-room _ _ (start1 c .pre .1) _ _ _ (lined1 c) (omega (arith, start1 c .pre .0))
-
-array-read-put-field-2 : tie.Need-array-read-put-field-2
-array-read-put-field-2 c = search needs
 
 put-field-requires-2 : tie.Need-put-field-requires-2
 put-field-requires-2 c κs = more-room _ _ (start2 c .pre .1) _ _ _ (lined2 c) (omega (arith, start2 c .pre .0))
 
-array-read-put-field-3 : tie.Need-array-read-put-field-3
-array-read-put-field-3 c = search needs
-
 put-field-requires-3 : tie.Need-put-field-requires-3
 put-field-requires-3 c κs = more-room _ _ (start3 c .pre .1) _ _ _ (lined3 c) (omega (arith, start3 c .pre .0))
-
-array-read-put-field-4 : tie.Need-array-read-put-field-4
-array-read-put-field-4 c = search needs
 
 put-field-requires-4 : tie.Need-put-field-requires-4
 put-field-requires-4 c κs = more-room _ _ (start4 c .pre .1) _ _ _ (lined4 c) (omega (arith, start4 c .pre .0))
 
-array-read-put-field-5 : tie.Need-array-read-put-field-5
-array-read-put-field-5 c = search needs
-
 put-field-requires-5 : tie.Need-put-field-requires-5
 put-field-requires-5 c κs = more-room _ _ (start5 c .pre .1) _ _ _ (lined5 c) (omega (arith, start5 c .pre .0))
-
-array-read-put-field-6 : tie.Need-array-read-put-field-6
-array-read-put-field-6 c = search needs
 
 put-field-requires-6 : tie.Need-put-field-requires-6
 put-field-requires-6 c κs = more-room _ _ (start6 c .pre .1) _ _ _ (lined6 c) (omega (arith, start6 c .pre .0))
 
-array-read-put-field-7 : tie.Need-array-read-put-field-7
-array-read-put-field-7 c = search needs
-
 put-field-requires-7 : tie.Need-put-field-requires-7
 put-field-requires-7 c κs = more-room _ _ (start7 c .pre .1) _ _ _ (lined7 c) (omega (arith, start7 c .pre .0))
-
-array-read-put-field-8 : tie.Need-array-read-put-field-8
-array-read-put-field-8 c = search needs
 
 put-field-requires-8 : tie.Need-put-field-requires-8
 put-field-requires-8 c κs = more-room _ _ (start8 c .pre .1) _ _ _ (lined8 c) (omega (arith, start8 c .pre .0))
 
-array-read-put-field-9 : tie.Need-array-read-put-field-9
-array-read-put-field-9 c = search needs
-
 put-field-requires-9 : tie.Need-put-field-requires-9
 put-field-requires-9 c κs = more-room _ _ (start9 c .pre .1) _ _ _ (lined9 c) (omega (arith, start9 c .pre .0))
-
-array-read-put-field-10 : tie.Need-array-read-put-field-10
-array-read-put-field-10 c = search needs
 
 put-field-requires-10 : tie.Need-put-field-requires-10
 put-field-requires-10 c κs = last-room _ _ (start10 c .pre .1) _ _ _ (lined10 c) (omega (arith, start10 c .pre .0))
@@ -183,25 +153,25 @@ pub put-numbers-spec : {M : Type 1} → statement M
 put-numbers-spec =
     tie.close
     (tie.spec
-    array-read-put-field
+    (λ c. search needs)
     put-field-requires
-    array-read-put-field-2
+    (λ c. search needs)
     put-field-requires-2
-    array-read-put-field-3
+    (λ c. search needs)
     put-field-requires-3
-    array-read-put-field-4
+    (λ c. search needs)
     put-field-requires-4
-    array-read-put-field-5
+    (λ c. search needs)
     put-field-requires-5
-    array-read-put-field-6
+    (λ c. search needs)
     put-field-requires-6
-    array-read-put-field-7
+    (λ c. search needs)
     put-field-requires-7
-    array-read-put-field-8
+    (λ c. search needs)
     put-field-requires-8
-    array-read-put-field-9
+    (λ c. search needs)
     put-field-requires-9
-    array-read-put-field-10
+    (λ c. search needs)
     put-field-requires-10
     same-length
     returns)

@@ -11,9 +11,6 @@ wide s = omega (arith, s .good .0)
 returns : tie.Need-returns
 returns c = too-small _ _ (c .if1 .taken)
 
-numbers-requires : tie.Need-numbers-requires
-numbers-requires c κs = search needs
-
 put-numbers-requires : tie.Need-put-numbers-requires
 put-numbers-requires c κs =
     let k = c .before in
@@ -21,9 +18,6 @@ put-numbers-requires c κs =
       rw (k .numbers .ensures) (omega arith),
       line-room (s .args .counters) (s .args .buffer .now) _ (k .numbers .ensures) (k .before .if1 .left) (wide s),
     )
-
-same-length : tie.Need-same-length
-same-length c = search needs
 
 returns-2 : tie.Need-returns-2
 returns-2 c =
@@ -34,4 +28,4 @@ returns-2 c =
     (called .ensures .0) (called .ensures .1)
 
 pub write-line-spec : {M : Type 1} → statement M
-write-line-spec = tie.close (tie.spec returns numbers-requires put-numbers-requires same-length returns-2)
+write-line-spec = tie.close (tie.spec returns (λ c κs. search needs) put-numbers-requires (λ c. search needs) returns-2)

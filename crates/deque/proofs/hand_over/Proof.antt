@@ -8,12 +8,6 @@ use Rattle.memory.specs.View.{put-part}
 use Rattle.deque.proofs.hand_over.Statement.{statement}
 use Rattle.deque.proofs.hand_over.Tie as tie
 
-deque-at-requires : tie.Need-deque-at-requires
-deque-at-requires c κs = search needs
-
-put-requires : tie.Need-put-requires
-put-requires c κs = search needs
-
 returns : tie.Need-returns
 returns c =
     let entry = c .before .before .before .before in
@@ -21,4 +15,4 @@ returns c =
     ∙ ap (λ (d : Deque). put-part (parts (now (entry .args .memory))) (entry .args .to) d) (c .before .before .deque-at .ensures)
 
 pub hand-over-spec : {M : Type 1} → statement M
-hand-over-spec = tie.close (tie.spec deque-at-requires put-requires returns)
+hand-over-spec = tie.close (tie.spec (λ c κs. search needs) (λ c κs. search needs) returns)

@@ -6,16 +6,10 @@ use Rattle.model.specs.Questions.{answer-number}
 use Rattle.exports_log.proofs.jirvaldo_core_run_log.Statement.{statement}
 use Rattle.exports_log.proofs.jirvaldo_core_run_log.Tie as tie
 
-run-requires : tie.Need-run-requires
-run-requires c κs = search needs
-
-log-number-requires : tie.Need-log-number-requires
-log-number-requires c κs = search needs
-
 returns : tie.Need-returns
 returns c =
     let promise = c .before .run .ensures in
     (c .log-number .ensures ∙ ap answer-number (promise .0), promise .1)
 
 pub jirvaldo-core-run-log-spec : {M : Type 1} → statement M
-jirvaldo-core-run-log-spec = tie.close (tie.spec run-requires log-number-requires returns)
+jirvaldo-core-run-log-spec = tie.close (tie.spec (λ c κs. search needs) (λ c κs. search needs) returns)

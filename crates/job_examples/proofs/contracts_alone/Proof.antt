@@ -14,23 +14,11 @@ use Rattle.job_examples.proofs.contracts_alone.Tie as tie
 abbrev accepted-a : tie.After-grant → tie.After-accept
 accepted-a c = c .before .before .before .before
 
-slice-aggregate-accept : tie.Need-slice-aggregate-accept
-slice-aggregate-accept c = search needs
-
-accept-requires : tie.Need-accept-requires
-accept-requires c κs = search needs
-
-passed-requires : tie.Need-passed-requires
-passed-requires c κs = search needs
-
 expect-requires : tie.Need-expect-requires
 expect-requires c κs = c .passed .ensures ∙ ap passes (c .before .accept .ensures .0 ∙ plan-a-begins .0)
 
 grant-requires : tie.Need-grant-requires
 grant-requires c κs = begun (c .before .before .before .accept .ensures .1) (plan-a-begins .0)
-
-number-requires : tie.Need-number-requires
-number-requires c κs = search needs
 
 expect-requires-2 : tie.Need-expect-requires-2
 expect-requires-2 c κs =
@@ -43,9 +31,6 @@ job-status-requires c κs =
     let granted = c .before .before .before in
     onward (begun (accepted-a granted .accept .ensures .1) (plan-a-begins .0)) (granted .grant .ensures .1)
 
-number-of-requires : tie.Need-number-of-requires
-number-of-requires c κs = search needs
-
 expect-requires-3 : tie.Need-expect-requires-3
 expect-requires-3 c κs =
     let granted = c .before .before .before .before .before in
@@ -54,21 +39,18 @@ expect-requires-3 c κs =
     ∙ c .before .job-status .ensures
     ∙ still-fresh (accepted-a granted .accept .ensures .1) (granted .grant .ensures .1))
 
-returns : tie.Need-returns
-returns c = search needs
-
 pub contracts-alone-spec : {M : Type 1} → statement M
 contracts-alone-spec =
     tie.close
     (tie.spec
-    slice-aggregate-accept
-    accept-requires
-    passed-requires
+    (λ c. search needs)
+    (λ c κs. search needs)
+    (λ c κs. search needs)
     expect-requires
     grant-requires
-    number-requires
+    (λ c κs. search needs)
     expect-requires-2
     job-status-requires
-    number-of-requires
+    (λ c κs. search needs)
     expect-requires-3
-    returns)
+    (λ c. search needs))

@@ -53,22 +53,10 @@ tick-read c = record { is = sym (c .before .before .read-entry .ensures) ∙ c .
 
 -- ---- the needs
 
-first-place-requires : tie.Need-first-place-requires Inv-loop μ-loop
-first-place-requires c κs = search needs
-
-loop-holds : tie.Need-loop-holds Inv-loop μ-loop
-loop-holds c = search needs
-
-read-entry-requires : tie.Need-read-entry-requires Inv-loop μ-loop
-read-entry-requires c κs = search needs
-
 -- ---- a grant
 
 abbrev grant-told : tie.After-now-job Inv-loop μ-loop → tie.After-g Inv-loop μ-loop
 grant-told c = c .before .before .before
-
-enum-known-g : tie.Need-enum-known-g Inv-loop μ-loop
-enum-known-g c = search needs
 
 cast-grant : tie.Need-cast-grant Inv-loop μ-loop
 cast-grant c = omega arith
@@ -89,9 +77,6 @@ loop-again c = onward (job-now (grant-told c .before .before)) (c .before .grant
 
 abbrev tick-told : tie.After-now-job2 Inv-loop μ-loop → tie.After-start Inv-loop μ-loop
 tick-told c = c .before .before .before .before
-
-enum-known-start : tie.Need-enum-known-start Inv-loop μ-loop
-enum-known-start c = search needs
 
 add-past : tie.Need-add-past Inv-loop μ-loop
 add-past c = omega (arith, tick-inside (tick-read (c .before)), log-fits (c .before .before .before))
@@ -116,14 +101,8 @@ loop-again-2 c = onward (job-now (tick-told c .before .before)) (c .before .tick
 
 -- ---- the log's end
 
-enum-told : tie.Need-enum-told Inv-loop μ-loop
-enum-told c = search needs
-
 returns : tie.Need-returns Inv-loop μ-loop
 returns c = job-now (c .before .before)
-
-enum-told-2 : tie.Need-enum-told-2 Inv-loop μ-loop
-enum-told-2 c = search needs
 
 returns-2 : tie.Need-returns-2 Inv-loop μ-loop
 returns-2 c = job-now (c .before .before)
@@ -134,16 +113,16 @@ played-spec =
     (tie.spec
     Inv-loop
     μ-loop
-    first-place-requires
-    loop-holds
-    read-entry-requires
-    enum-known-g
+    (λ c κs. search needs)
+    (λ c. search needs)
+    (λ c κs. search needs)
+    (λ c. search needs)
     cast-grant
     grant-requires
     add-at
     loop-less
     loop-again
-    enum-known-start
+    (λ c. search needs)
     add-past
     sub-tick
     part-tick-start
@@ -151,7 +130,7 @@ played-spec =
     tick-requires
     loop-less-2
     loop-again-2
-    enum-told
+    (λ c. search needs)
     returns
-    enum-told-2
+    (λ c. search needs)
     returns-2)

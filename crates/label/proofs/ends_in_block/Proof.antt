@@ -22,9 +22,6 @@ add-is-end c = omega arith
 shared-slice-read-is-end : tie.Need-shared-slice-read-is-end Inv-loop μ-loop
 shared-slice-read-is-end c = omega arith
 
-is-end-requires : tie.Need-is-end-requires Inv-loop μ-loop
-is-end-requires c κs = search needs
-
 add-ends : tie.Need-add-ends Inv-loop μ-loop
 add-ends c = omega (arith, c .before .before .before .loop .inv .most, c .before .before .before .loop .inv .upto, c .is-end .ensures .most)
 
@@ -51,7 +48,7 @@ ends-in-block-spec =
     loop-holds
     add-is-end
     shared-slice-read-is-end
-    is-end-requires
+    (λ c κs. search needs)
     add-ends
     add-k
     loop-less

@@ -9,24 +9,6 @@ use Rattle.label.proofs.Part.{part-within, part-bytes, part-place}
 use Rattle.label.proofs.wording.Statement.{statement}
 use Rattle.label.proofs.wording.Tie as tie
 
-find-requires : tie.Need-find-requires
-find-requires c κs = search needs
-
-enum-known-found : tie.Need-enum-known-found
-enum-known-found c = search needs
-
-enum-told : tie.Need-enum-told
-enum-told c = search needs
-
-sub-result : tie.Need-sub-result
-sub-result c = search needs
-
-part-result-start : tie.Need-part-result-start
-part-result-start c = search needs
-
-part-result-end : tie.Need-part-result-end
-part-result-end c = search needs
-
 returns : tie.Need-returns
 returns c =
     let at = c .before in
@@ -38,12 +20,6 @@ add-end : tie.Need-add-end
 add-end c =
     let found = sym (ap found-stretch (c .before .found .given .1)) ∙ c .before .before .before .find .ensures .1 in
     omega (arith, part-within _ _ _ _ found)
-
-sub-result-2 : tie.Need-sub-result-2
-sub-result-2 c = search needs
-
-part-result-start-2 : tie.Need-part-result-start-2
-part-result-start-2 c = search needs
 
 part-result-end-2 : tie.Need-part-result-end-2
 part-result-end-2 c =
@@ -61,15 +37,15 @@ pub wording-spec : {M : Type 1} → statement M
 wording-spec =
     tie.close
     (tie.spec
-    find-requires
-    enum-known-found
-    enum-told
-    sub-result
-    part-result-start
-    part-result-end
+    (λ c κs. search needs)
+    (λ c. search needs)
+    (λ c. search needs)
+    (λ c. search needs)
+    (λ c. search needs)
+    (λ c. search needs)
     returns
     add-end
-    sub-result-2
-    part-result-start-2
+    (λ c. search needs)
+    (λ c. search needs)
     part-result-end-2
     returns-2)

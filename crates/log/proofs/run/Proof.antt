@@ -58,14 +58,8 @@ job-now c = still-job _ _ (inv-of c) (entry c .pre)
 
 -- ---- the needs
 
-first-place-requires : tie.Need-first-place-requires Inv-loop μ-loop
-first-place-requires c κs = search needs
-
 loop-holds : tie.Need-loop-holds Inv-loop μ-loop
 loop-holds c = rw (c .first-place .ensures) (starts _ _)
-
-read-entry-requires : tie.Need-read-entry-requires Inv-loop μ-loop
-read-entry-requires c κs = search needs
 
 -- ---- a grant
 
@@ -77,17 +71,11 @@ grant-read : (c : tie.After-g Inv-loop μ-loop) →
     ReadAt (log-of read) (at-of read) (Grant (c .g .given .0 .0))
 grant-read c = record { is = sym (c .before .before .read-entry .ensures) ∙ c .g .given .1 }
 
-enum-known-g : tie.Need-enum-known-g Inv-loop μ-loop
-enum-known-g c = search needs
-
 cast-grant : tie.Need-cast-grant Inv-loop μ-loop
 cast-grant c = omega arith
 
 grant-requires : tie.Need-grant-requires Inv-loop μ-loop
 grant-requires c κs = job-now (c .before .before .before .before .before)
-
-refused-requires : tie.Need-refused-requires Inv-loop μ-loop
-refused-requires c κs = search needs
 
 add-count : tie.Need-add-count Inv-loop μ-loop
 add-count c =
@@ -118,9 +106,6 @@ tick-read : (c : tie.After-start Inv-loop μ-loop) →
     ReadAt (log-of read) (at-of read) (Tick (c .start .given .0 .0) (c .start .given .0 .1 .0))
 tick-read c = record { is = sym (c .before .before .read-entry .ensures) ∙ c .start .given .1 }
 
-enum-known-start : tie.Need-enum-known-start Inv-loop μ-loop
-enum-known-start c = search needs
-
 add-past : tie.Need-add-past Inv-loop μ-loop
 add-past c = omega (arith, tick-inside (tick-read (c .before)), log-fits (c .before .before .before))
 
@@ -135,9 +120,6 @@ part-tick-end c = tick-inside (tick-read (c .before .before .before)) .1
 
 tick-requires : tie.Need-tick-requires Inv-loop μ-loop
 tick-requires c κs = let told = c .before .before .before .before in job-now (told .before .before)
-
-refused-requires-2 : tie.Need-refused-requires-2 Inv-loop μ-loop
-refused-requires-2 c κs = search needs
 
 add-count-2 : tie.Need-add-count-2 Inv-loop μ-loop
 add-count-2 c =
@@ -158,18 +140,12 @@ loop-again-2 c =
 
 -- ---- the log's end
 
-enum-told : tie.Need-enum-told Inv-loop μ-loop
-enum-told c = search needs
-
 returns : tie.Need-returns Inv-loop μ-loop
 returns c =
     let read = c .before .before in
     ends-here _ _ (inv-of read) true BrokenEntry
     (entries-read {entry = Broken} (record { is = sym (read .read-entry .ensures) ∙ c .enum-told .given .1 }))
     refl
-
-enum-told-2 : tie.Need-enum-told-2 Inv-loop μ-loop
-enum-told-2 c = search needs
 
 returns-2 : tie.Need-returns-2 Inv-loop μ-loop
 returns-2 c =
@@ -184,28 +160,28 @@ run-spec =
     (tie.spec
     Inv-loop
     μ-loop
-    first-place-requires
+    (λ c κs. search needs)
     loop-holds
-    read-entry-requires
-    enum-known-g
+    (λ c κs. search needs)
+    (λ c. search needs)
     cast-grant
     grant-requires
-    refused-requires
+    (λ c κs. search needs)
     add-count
     add-at
     loop-less
     loop-again
-    enum-known-start
+    (λ c. search needs)
     add-past
     sub-tick
     part-tick-start
     part-tick-end
     tick-requires
-    refused-requires-2
+    (λ c κs. search needs)
     add-count-2
     loop-less-2
     loop-again-2
-    enum-told
+    (λ c. search needs)
     returns
-    enum-told-2
+    (λ c. search needs)
     returns-2)

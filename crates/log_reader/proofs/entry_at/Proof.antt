@@ -13,21 +13,12 @@ returns : tie.Need-returns
 unfolding entry-of
 returns c = simp (le-ltb _ _ (c .if1 .taken))
 
-shared-slice-read-byte : tie.Need-shared-slice-read-byte
-shared-slice-read-byte c = search needs
-
 returns-2 : tie.Need-returns-2
 unfolding entry-of
 returns-2 c = simp (lt-ltb _ _ (c .before .before .if1 .left), lt-ltb _ _ (c .if2 .taken))
 
 cast-count : tie.Need-cast-count
 cast-count c = omega (arith, c .before .shared-slice-known .given (c .before .before .before .args .at))
-
-add-start : tie.Need-add-start
-add-start c = search needs
-
-sub-if3 : tie.Need-sub-if3
-sub-if3 c = search needs
 
 returns-3 : tie.Need-returns-3
 unfolding entry-of
@@ -42,10 +33,10 @@ entry-at-spec =
     tie.close
     (tie.spec
     returns
-    shared-slice-read-byte
+    (λ c. search needs)
     returns-2
     cast-count
-    add-start
-    sub-if3
+    (λ c. search needs)
+    (λ c. search needs)
     returns-3
     returns-4)

@@ -29,12 +29,6 @@ log-fits c = omega (arith, c .before .before .good .0 .1)
 
 -- ---- the needs
 
-entry-at-requires : tie.Need-entry-at-requires
-entry-at-requires c κs = search needs
-
-enum-told : tie.Need-enum-told
-enum-told c = search needs
-
 grant-found : (c : tie.After-enum-told) →
     ReadAt (log-of (c .before .before)) (at-of (c .before .before)) (Grant (c .enum-told .given .0 .0))
 grant-found c = record { is = sym (c .before .before .entry-at .ensures) ∙ c .enum-told .given .1 }
@@ -42,21 +36,12 @@ grant-found c = record { is = sym (c .before .before .entry-at .ensures) ∙ c .
 add-result : tie.Need-add-result
 add-result c = omega (arith, grant-inside (grant-found c), log-fits (c .before .before))
 
-enum-known-start : tie.Need-enum-known-start
-enum-known-start c = search needs
-
 tick-found : (c : tie.After-start) →
     ReadAt (log-of (c .before .before)) (at-of (c .before .before)) (Tick (c .start .given .0 .0) (c .start .given .0 .1 .0))
 tick-found c = record { is = sym (c .before .before .entry-at .ensures) ∙ c .start .given .1 }
 
 add-result-2 : tie.Need-add-result-2
 add-result-2 c = omega (arith, tick-inside (tick-found (c .before)), log-fits (c .before .before .before))
-
-enum-told-2 : tie.Need-enum-told-2
-enum-told-2 c = search needs
-
-enum-told-3 : tie.Need-enum-told-3
-enum-told-3 c = search needs
 
 returns : tie.Need-returns
 returns c = ap (past-entry (at-of (c .before .before))) (sym (grant-found c .is))
@@ -74,13 +59,13 @@ pub past-at-spec : {M : Type 1} → statement M
 past-at-spec =
     tie.close
     (tie.spec
-    entry-at-requires
-    enum-told
+    (λ c κs. search needs)
+    (λ c. search needs)
     add-result
-    enum-known-start
+    (λ c. search needs)
     add-result-2
-    enum-told-2
-    enum-told-3
+    (λ c. search needs)
+    (λ c. search needs)
     returns
     returns-2
     returns-3

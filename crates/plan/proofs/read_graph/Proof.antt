@@ -18,26 +18,11 @@ holds-8 c = sym (c .before .passed .ensures) ∙ not-false _ (c .if1 .left)
 read-tasks-requires : tie.Need-read-tasks-requires
 read-tasks-requires c κs = let s = c .before .before in first-due _ _ (s .pre .0) _ (s .pre .1)
 
-passed-requires : tie.Need-passed-requires
-passed-requires c κs = search needs
-
-refusal-requires : tie.Need-refusal-requires
-refusal-requires c κs = search needs
-
 returns : tie.Need-returns
 returns c =
     let p = c .before .before in
     let fails = sym (p .passed .ensures) ∙ not-true _ (c .before .if1 .taken) in
     right-refusal _ _ _ _ (tasks-refused _ _ (start p .pre .0) _ _ (p .before .read-tasks .ensures) fails) fails (c .refusal .ensures)
-
-all-preceded-requires : tie.Need-all-preceded-requires
-all-preceded-requires c κs = search needs
-
-one-exit-requires : tie.Need-one-exit-requires
-one-exit-requires c κs = search needs
-
-refusal-requires-2 : tie.Need-refusal-requires-2
-refusal-requires-2 c κs = search needs
 
 returns-2 : tie.Need-returns-2
 returns-2 c =
@@ -49,9 +34,6 @@ returns-2 c =
     (refused-9 _ _ (start p .pre .0) _ _ (p .before .read-tasks .ensures) (holds-8 e)
     (sym (a .all-preceded .ensures) ∙ not-true _ (c .before .if2 .taken)))
     refl (c .refusal2 .ensures)
-
-refusal-requires-3 : tie.Need-refusal-requires-3
-refusal-requires-3 c κs = search needs
 
 returns-3 : tie.Need-returns-3
 returns-3 c =
@@ -65,21 +47,6 @@ returns-3 c =
     (sym (a .all-preceded .ensures) ∙ not-false _ (n .if2 .left))
     (sym (o .one-exit .ensures) ∙ not-true _ (c .before .if3 .taken)))
     refl (c .refusal3 .ensures)
-
-element-write-memory : tie.Need-element-write-memory
-element-write-memory c = search needs
-
-cast-t18 : tie.Need-cast-t18
-cast-t18 c = search needs
-
-cast-t19 : tie.Need-cast-t19
-cast-t19 c = search needs
-
-cast-t20 : tie.Need-cast-t20
-cast-t20 c = search needs
-
-cast-t21 : tie.Need-cast-t21
-cast-t21 c = search needs
 
 returns-4 : tie.Need-returns-4
 returns-4 c =
@@ -99,18 +66,18 @@ read-graph-spec =
     tie.close
     (tie.spec
     read-tasks-requires
-    passed-requires
-    refusal-requires
+    (λ c κs. search needs)
+    (λ c κs. search needs)
     returns
-    all-preceded-requires
-    one-exit-requires
-    refusal-requires-2
+    (λ c κs. search needs)
+    (λ c κs. search needs)
+    (λ c κs. search needs)
     returns-2
-    refusal-requires-3
+    (λ c κs. search needs)
     returns-3
-    element-write-memory
-    cast-t18
-    cast-t19
-    cast-t20
-    cast-t21
+    (λ c. search needs)
+    (λ c. search needs)
+    (λ c. search needs)
+    (λ c. search needs)
+    (λ c. search needs)
     returns-4)

@@ -9,38 +9,8 @@ use Rattle.plan.proofs.Answered.{refused-outright, into-refused, into-p
 use Rattle.plan.proofs.read_into.Statement.{statement}
 use Rattle.plan.proofs.read_into.Tie as tie
 
-refusal-requires : tie.Need-refusal-requires
-refusal-requires c κs = search needs
-
 returns : tie.Need-returns
 returns c = refused-outright _ _ _ _ (short _ (omega arith)) refl (c .refusal .ensures)
-
-shared-slice-read-header-of : tie.Need-shared-slice-read-header-of
-shared-slice-read-header-of c = search needs
-
-shared-slice-read-header-of-2 : tie.Need-shared-slice-read-header-of-2
-shared-slice-read-header-of-2 c = search needs
-
-shared-slice-read-header-of-3 : tie.Need-shared-slice-read-header-of-3
-shared-slice-read-header-of-3 c = search needs
-
-shared-slice-read-header-of-4 : tie.Need-shared-slice-read-header-of-4
-shared-slice-read-header-of-4 c = search needs
-
-shared-slice-read-header-of-5 : tie.Need-shared-slice-read-header-of-5
-shared-slice-read-header-of-5 c = search needs
-
-header-of-requires : tie.Need-header-of-requires
-header-of-requires c κs = search needs
-
-header-answer-requires : tie.Need-header-answer-requires
-header-answer-requires c κs = search needs
-
-passed-requires : tie.Need-passed-requires
-passed-requires c κs = search needs
-
-refusal-requires-2 : tie.Need-refusal-requires-2
-refusal-requires-2 c κs = search needs
 
 returns-2 : tie.Need-returns-2
 returns-2 c =
@@ -60,9 +30,6 @@ read-graph-requires c κs =
       refl,
     )
 
-passed-requires-2 : tie.Need-passed-requires-2
-passed-requires-2 c κs = search needs
-
 returns-3 : tie.Need-returns-3
 returns-3 c =
     let p = c .before in
@@ -77,19 +44,19 @@ pub read-into-spec : {M : Type 1} → statement M
 read-into-spec =
     tie.close
     (tie.spec
-    refusal-requires
+    (λ c κs. search needs)
     returns
-    shared-slice-read-header-of
-    shared-slice-read-header-of-2
-    shared-slice-read-header-of-3
-    shared-slice-read-header-of-4
-    shared-slice-read-header-of-5
-    header-of-requires
-    header-answer-requires
-    passed-requires
-    refusal-requires-2
+    (λ c. search needs)
+    (λ c. search needs)
+    (λ c. search needs)
+    (λ c. search needs)
+    (λ c. search needs)
+    (λ c κs. search needs)
+    (λ c κs. search needs)
+    (λ c κs. search needs)
+    (λ c κs. search needs)
     returns-2
     read-graph-requires
-    passed-requires-2
+    (λ c κs. search needs)
     returns-3
     returns-4)

@@ -27,57 +27,6 @@ small p passed =
       second-small _ _ _ _ (s .pre .1 .number) fields (p .before .task-answer .result) answered passed,
     )
 
-mul-at : tie.Need-mul-at
-mul-at c = search needs
-
-add-at : tie.Need-add-at
-add-at c = search needs
-
-shared-slice-read-task-of : tie.Need-shared-slice-read-task-of
-shared-slice-read-task-of c = search needs
-
-add-task-of : tie.Need-add-task-of
-add-task-of c = search needs
-
-shared-slice-read-task-of-2 : tie.Need-shared-slice-read-task-of-2
-shared-slice-read-task-of-2 c = search needs
-
-add-task-of-2 : tie.Need-add-task-of-2
-add-task-of-2 c = search needs
-
-shared-slice-read-task-of-3 : tie.Need-shared-slice-read-task-of-3
-shared-slice-read-task-of-3 c = search needs
-
-task-of-requires : tie.Need-task-of-requires
-task-of-requires c κs = search needs
-
-task-answer-requires : tie.Need-task-answer-requires
-task-answer-requires c κs = search needs
-
-passed-requires : tie.Need-passed-requires
-passed-requires c κs = search needs
-
-add-second-at : tie.Need-add-second-at
-add-second-at c = search needs
-
-cast-memory : tie.Need-cast-memory
-cast-memory c = search needs
-
-mul-memory : tie.Need-mul-memory
-mul-memory c = search needs
-
-element-write-memory : tie.Need-element-write-memory
-element-write-memory c = search needs
-
-cast-memory-2 : tie.Need-cast-memory-2
-cast-memory-2 c = search needs
-
-mul-memory-2 : tie.Need-mul-memory-2
-mul-memory-2 c = search needs
-
-element-write-memory-2 : tie.Need-element-write-memory-2
-element-write-memory-2 c = search needs
-
 note-requires : tie.Need-note-requires
 note-requires c κs =
     let p = c .before .before .before .before in
@@ -111,23 +60,23 @@ pub read-task-spec : {M : Type 1} → statement M
 read-task-spec =
     tie.close
     (tie.spec
-    mul-at
-    add-at
-    shared-slice-read-task-of
-    add-task-of
-    shared-slice-read-task-of-2
-    add-task-of-2
-    shared-slice-read-task-of-3
-    task-of-requires
-    task-answer-requires
-    passed-requires
-    add-second-at
-    cast-memory
-    mul-memory
-    element-write-memory
-    cast-memory-2
-    mul-memory-2
-    element-write-memory-2
+    (λ c. search needs)
+    (λ c. search needs)
+    (λ c. search needs)
+    (λ c. search needs)
+    (λ c. search needs)
+    (λ c. search needs)
+    (λ c. search needs)
+    (λ c κs. search needs)
+    (λ c κs. search needs)
+    (λ c κs. search needs)
+    (λ c. search needs)
+    (λ c. search needs)
+    (λ c. search needs)
+    (λ c. search needs)
+    (λ c. search needs)
+    (λ c. search needs)
+    (λ c. search needs)
     note-requires
     note-requires-2
     returns

@@ -26,9 +26,6 @@ loop-holds c = (omega arith, c .before .pre)
 read-task-requires : tie.Need-read-task-requires Inv-loop μ-loop
 read-task-requires c κs = (search needs, c .before .before .loop .inv .1)
 
-passed-requires : tie.Need-passed-requires Inv-loop μ-loop
-passed-requires c κs = search needs
-
 add-t : tie.Need-add-t Inv-loop μ-loop
 add-t c = omega arith
 
@@ -62,7 +59,7 @@ read-tasks-spec =
     μ-loop
     loop-holds
     read-task-requires
-    passed-requires
+    (λ c κs. search needs)
     add-t
     loop-less
     loop-again

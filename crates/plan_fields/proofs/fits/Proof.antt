@@ -5,12 +5,6 @@ use Rattle.plan_fields.proofs.Refusals.{bit-small, fits-asked}
 use Rattle.plan_fields.proofs.fits.Statement.{statement}
 use Rattle.plan_fields.proofs.fits.Tie as tie
 
-last-used-requires : tie.Need-last-used-requires
-last-used-requires c κs = search needs
-
-cast-result : tie.Need-cast-result
-cast-result c = search needs
-
 sub-result : tie.Need-sub-result
 sub-result c = bit-small (eqb (c .before .before .args .f .second) 0)
 
@@ -22,4 +16,4 @@ returns c =
     (called .last-used .result) (called .last-used .ensures)
 
 pub fits-spec : {M : Type 1} → statement M
-fits-spec = tie.close (tie.spec last-used-requires cast-result sub-result returns)
+fits-spec = tie.close (tie.spec (λ c κs. search needs) (λ c. search needs) sub-result returns)

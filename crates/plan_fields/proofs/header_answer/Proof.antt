@@ -5,12 +5,6 @@ use Rattle.plan_fields.proofs.Refusals.{no-2, no-3, no-4-low, no-4-high
 use Rattle.plan_fields.proofs.header_answer.Statement.{statement}
 use Rattle.plan_fields.proofs.header_answer.Tie as tie
 
-mul-whole : tie.Need-mul-whole
-mul-whole c = search needs
-
-add-whole : tie.Need-add-whole
-add-whole c = search needs
-
 returns : tie.Need-returns
 returns c = no-2 _ _ _ _ _ _ (c .if1 .taken)
 
@@ -33,4 +27,4 @@ returns-7 : tie.Need-returns-7
 returns-7 c = yes-to-6 _ _ _ _ _ _ (omega arith) (omega arith) (omega arith) (omega arith) (omega arith) (omega arith)
 
 pub header-answer-spec : {M : Type 1} → statement M
-header-answer-spec = tie.close (tie.spec mul-whole add-whole returns returns-2 returns-3 returns-4 returns-5 returns-6 returns-7)
+header-answer-spec = tie.close (tie.spec (λ c. search needs) (λ c. search needs) returns returns-2 returns-3 returns-4 returns-5 returns-6 returns-7)

@@ -32,15 +32,9 @@ refusal BadSuccessors k = refl
 refusal BadPredecessors k = refl
 refusal LooseEnd k = refl
 
-enum-told : tie.Need-enum-told
-enum-told c = search needs
-
-returns : tie.Need-returns
-returns c = search needs
-
 returns-2 : tie.Need-returns-2
 unfolding refusals
 returns-2 c = refusal (c .before .args .answer) (c .match .keys2)
 
 pub passed-spec : {M : Type 1} → statement M
-passed-spec = tie.close (tie.spec enum-told returns returns-2)
+passed-spec = tie.close (tie.spec (λ c. search needs) (λ c. search needs) returns-2)

@@ -5,9 +5,6 @@ use Rattle.plan_fields.proofs.Refusals.{fitting, two-unfit, one-unfit, 
 use Rattle.plan_fields.proofs.task_answer.Statement.{statement}
 use Rattle.plan_fields.proofs.task_answer.Tie as tie
 
-fits-requires : tie.Need-fits-requires
-fits-requires c κs = search needs
-
 returns : tie.Need-returns
 returns c = fitting _ _ _ _ _ _ (c .before .fits2 .ensures) (c .if1 .taken)
 
@@ -37,4 +34,4 @@ returns-7 c = none _ _ _ _ _ (omega arith) (omega arith) (omega arith)
 pub task-answer-spec : {M : Type 1} → statement M
 task-answer-spec =
     tie.close
-    (tie.spec fits-requires returns returns-2 returns-3 returns-4 returns-5 returns-6 returns-7)
+    (tie.spec (λ c κs. search needs) returns returns-2 returns-3 returns-4 returns-5 returns-6 returns-7)

@@ -5,20 +5,11 @@ use Rattle.quantum.proofs.Desires.{closed-inefficient, closed-deprived,
 use Rattle.quantum.proofs.next_desire.Statement.{statement}
 use Rattle.quantum.proofs.next_desire.Tie as tie
 
-was-efficient-requires : tie.Need-was-efficient-requires
-was-efficient-requires c κs = search needs
-
-lowered-desire-requires : tie.Need-lowered-desire-requires
-lowered-desire-requires c κs = search needs
-
 returns : tie.Need-returns
 returns c = closed-inefficient (c .before .before .was-efficient .ensures) (not-true _ (c .before .if1 .taken)) (c .lowered-desire .ensures)
 
 returns-2 : tie.Need-returns-2
 returns-2 c = closed-deprived (c .before .before .was-efficient .ensures) (not-false _ (c .before .if1 .left)) (c .if2 .taken)
-
-raised-desire-requires : tie.Need-raised-desire-requires
-raised-desire-requires c κs = search needs
 
 returns-3 : tie.Need-returns-3
 returns-3 c =
@@ -27,4 +18,4 @@ returns-3 c =
 
 pub next-desire-spec : {M : Type 1} → statement M
 next-desire-spec =
-    tie.close (tie.spec was-efficient-requires lowered-desire-requires returns returns-2 raised-desire-requires returns-3)
+    tie.close (tie.spec (λ c κs. search needs) (λ c κs. search needs) returns returns-2 (λ c κs. search needs) returns-3)

@@ -5,9 +5,6 @@ use Rattle.quantum.proofs.Desires.{room, stays, rises}
 use Rattle.quantum.proofs.raised_desire.Statement.{statement}
 use Rattle.quantum.proofs.raised_desire.Tie as tie
 
-top-desire-requires : tie.Need-top-desire-requires
-top-desire-requires c κs = search needs
-
 returns : tie.Need-returns
 returns c = stays (c .before .before .pre) (c .before .top-desire .ensures) (c .if1 .taken)
 
@@ -20,4 +17,4 @@ returns-2 : tie.Need-returns-2
 returns-2 c = rises (c .before .before .pre) (c .before .top-desire .ensures) (c .if1 .left)
 
 pub raised-desire-spec : {M : Type 1} → statement M
-raised-desire-spec = tie.close (tie.spec top-desire-requires returns mul-result returns-2)
+raised-desire-spec = tie.close (tie.spec (λ c κs. search needs) returns mul-result returns-2)

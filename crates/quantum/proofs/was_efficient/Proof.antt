@@ -19,11 +19,8 @@ mul-owed-2 c =
     (c .fits .granted .fits) in
     omega arith
 
-mul-result : tie.Need-mul-result
-mul-result c = search needs
-
 returns : tie.Need-returns
 returns c = judged (c .args .utilization) (c .args .length) (c .args .granted) (c .args .usage)
 
 pub was-efficient-spec : {M : Type 1} → statement M
-was-efficient-spec = tie.close (tie.spec mul-owed mul-owed-2 mul-result returns)
+was-efficient-spec = tie.close (tie.spec mul-owed mul-owed-2 (λ c. search needs) returns)

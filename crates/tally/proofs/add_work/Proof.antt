@@ -4,11 +4,8 @@ use borrow.Author.Needs.{needs}
 use Rattle.tally.proofs.add_work.Statement.{statement}
 use Rattle.tally.proofs.add_work.Tie as tie
 
-one-more-requires : tie.Need-one-more-requires
-one-more-requires c κs = search needs
-
 returns : tie.Need-returns
 returns c = rw (c .one-more .ensures) refl
 
 pub add-work-spec : {M : Type 1} → statement M
-add-work-spec = tie.close (tie.spec one-more-requires returns)
+add-work-spec = tie.close (tie.spec (λ c κs. search needs) returns)

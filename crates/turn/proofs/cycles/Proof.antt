@@ -55,17 +55,8 @@ stepped c =
     onward-work (entry head .pre) (head .loop .inv .0) (at .loop-test .taken) some
     (head .loop .inv .1) (c .before .work-cycle .ensures _) (c .add-work .ensures)
 
-element-copy-out-left : tie.Need-element-copy-out-left Inv-loop μ-loop
-element-copy-out-left c = search needs
-
-element-copy-out-left-2 : tie.Need-element-copy-out-left-2 Inv-loop μ-loop
-element-copy-out-left-2 c = search needs
-
 sub-left : tie.Need-sub-left Inv-loop μ-loop
 sub-left c = some-left (c .before .before .before .pre)
-
-no-tally-requires : tie.Need-no-tally-requires Inv-loop μ-loop
-no-tally-requires c κs = search needs
 
 loop-holds : tie.Need-loop-holds Inv-loop μ-loop
 loop-holds c =
@@ -97,9 +88,6 @@ add-work-requires : tie.Need-add-work-requires Inv-loop μ-loop
 add-work-requires c κs =
     let at = worked c .before .before in
     growing (addable (entry at .pre) (at .loop .inv .0))
-
-number-requires : tie.Need-number-requires Inv-loop μ-loop
-number-requires c κs = search needs
 
 add-settle : tie.Need-add-settle Inv-loop μ-loop
 add-settle c =
@@ -179,10 +167,10 @@ cycles-spec =
     (tie.spec
     Inv-loop
     μ-loop
-    element-copy-out-left
-    element-copy-out-left-2
+    (λ c. search needs)
+    (λ c. search needs)
     sub-left
-    no-tally-requires
+    (λ c κs. search needs)
     loop-holds
     mul-size-at
     add-size-at
@@ -191,7 +179,7 @@ cycles-spec =
     element-copy-out-if1
     work-cycle-requires
     add-work-requires
-    number-requires
+    (λ c κs. search needs)
     add-settle
     settle-requires
     returns

@@ -7,7 +7,6 @@ use borrow.Author.Needs.{needs}
 use denote.Ref.{now}
 use Rattle.memory.specs.Parts.{parts}
 use Rattle.memory.specs.View.{size-at}
-use Rattle.memory.specs.Words.{numbers-in}
 use Rattle.memory.proofs.Regions.{ends-part-at}
 use Rattle.tally.proofs.Tallying.{growing}
 use Rattle.turn.proofs.Cycling.{worker-place, choice-place}
@@ -27,15 +26,6 @@ chosen-size : (c : tie.After-if12) →
     ≡ getD (parts (now (entry c .args .memory)) .ends) (size-at (entry c .args .choice)) 0
 chosen-size c =
     ends-part-at (now (entry c .args .memory)) (size-at (entry c .args .choice)) (omega (arith, choice-place (entry c .pre .turn)))
-
-number-requires : tie.Need-number-requires
-number-requires c κs = search needs
-
-element-copy-out-if1 : tie.Need-element-copy-out-if1
-element-copy-out-if1 c = search needs
-
-element-copy-out-oldest : tie.Need-element-copy-out-oldest
-element-copy-out-oldest c = search needs
 
 add-oldest : tie.Need-add-oldest
 add-oldest c =
@@ -79,16 +69,10 @@ rob-requires c κs =
     let at = c .before .before .before .before in
     robbable (entry at .pre .turn) (omega (arith, chosen-size at, c .before .if2 .taken))
 
-element-copy-out-words : tie.Need-element-copy-out-words
-element-copy-out-words c = search needs
-
 add-words : tie.Need-add-words
 add-words c =
     let robbed = c .before .before in
     omega (arith, entry (robbed .before .before .before .before) .pre .addable .room .successes-fit)
-
-element-write-words : tie.Need-element-write-words
-element-write-words c = search needs
 
 returns-2 : tie.Need-returns-2
 returns-2 c =
@@ -108,9 +92,9 @@ pub idle-cycle-spec : {M : Type 1} → statement M
 idle-cycle-spec =
     tie.close
     (tie.spec
-    number-requires
-    element-copy-out-if1
-    element-copy-out-oldest
+    (λ c κs. search needs)
+    (λ c. search needs)
+    (λ c. search needs)
     add-oldest
     add-oldest-2
     hand-over-requires
@@ -122,8 +106,8 @@ idle-cycle-spec =
     mul-if2
     element-copy-out-if2
     rob-requires
-    element-copy-out-words
+    (λ c. search needs)
     add-words
-    element-write-words
+    (λ c. search needs)
     returns-2
     returns-3)

@@ -63,9 +63,6 @@ mul-size c = omega (arith, place (c .before))
 element-copy-out-size : tie.Need-element-copy-out-size
 element-copy-out-size c = omega (arith, place (c .before))
 
-wide-requires : tie.Need-wide-requires
-wide-requires c κs = search needs
-
 add-next-at : tie.Need-add-next-at
 add-next-at c = omega (arith, inside c)
 
@@ -116,9 +113,6 @@ element-write-memory-3 c = omega (arith, place (entry (front (c .before .before)
 
 returns : tie.Need-returns
 returns c = λ m turn. done-none _ turn (front (c .before .before) .wide .ensures) _ refl (c .if2 .taken)
-
-wide-requires-2 : tie.Need-wide-requires-2
-wide-requires-2 c κs = search needs
 
 add-awaits-at : tie.Need-add-awaits-at
 add-awaits-at c = omega (arith, one-inside c)
@@ -211,7 +205,7 @@ work-cycle-spec =
     element-copy-out-front
     mul-size
     element-copy-out-size
-    wide-requires
+    (λ c κs. search needs)
     add-next-at
     mul-rest
     element-copy-out-rest
@@ -229,7 +223,7 @@ work-cycle-spec =
     mul-memory-3
     element-write-memory-3
     returns
-    wide-requires-2
+    (λ c κs. search needs)
     add-awaits-at
     mul-awaited
     element-copy-out-awaited
