@@ -37,8 +37,8 @@ abbrev pub line-length : LineAnswer → ℕ
 line-length (Written size) = size
 line-length TooSmall = 0
 
--- this line was to be written at a buffer's start: the answer, how many bytes the line has, and the buffer afterwards; refused, no line, and
--- the buffer as it came
+-- this line was to be written at a buffer's start: the answer, how many bytes the line has, and the buffer afterwards; refused, no line,
+-- and the buffer as it came
 pub record WritesLine (line buffer buffer′ : List ℕ) (r : LineAnswer) : Type 0 where
   pub answered : line-answer r ≡ counters-answer buffer
   pub sized : line-length r ≡ by-answer (counters-answer buffer) (length line) 0

@@ -43,8 +43,7 @@ pub fn put(memory: &mut [u16; 4352], place: usize, deque: Deque)
 // The deque at one place becomes that of another, whole.
 pub fn hand_over(memory: &mut [u16; 4352], from: usize, to: usize)
     requires { ⌜ (from < 128) × (to < 128) ⌝ }
-    ensures { λ _. ⌜ parts-after memory ≡
-        put-part (parts-before memory) to (ends-at (parts-before memory .ends) from) ⌝ }
+    ensures { λ _. ⌜ parts-after memory ≡ put-part (parts-before memory) to (ends-at (parts-before memory .ends) from) ⌝ }
 {
     let deque = deque_at(memory, from);
     put(memory, to, deque);

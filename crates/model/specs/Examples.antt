@@ -417,19 +417,19 @@ rows = document-rows ++ our-rows
 pub table : failing 0 rows ≡ []
 unfolding same row-holds failing task plan-bytes diamond one-task seven easy-seven ten link chain refusal after-calls quantum-kept shown
     answered listed placed labelled document-rows seven-tasks header-fields task-fields fresh-with quantum-shown current-shown
-    history-shown shown-twice statuses-from statuses plan-rows grant-rows tick-rows quantum-rows log-rows program-rows our-rows rows below
-    every keep member count-set all-set first-no flatMap Plan.predecessors Plan.number Plan.header Plan.task-bits Plan.successor-fields
-    Plan.plan-of Plan.fields-ok Plan.two-differ Plan.targets-ok Plan.task-questions Plan.all-preceded Plan.one-exit Plan.header-questions
-    Plan.graph-questions Plan.plan-questions Plan.plan-answer Machine.finished Machine.fresh Machine.grant-questions Machine.kept-deques
-    Machine.withdrawn-deques Machine.first-task-placed Machine.grant Machine.tick-questions Machine.cycle-of Machine.ready
-    Machine.released Machine.stolen-count Machine.left-by-steal Machine.taken-by-steal Machine.work-cycle Machine.mug-cycle Machine.successful-steal
-    Machine.failed-steal Machine.cycle Machine.cycles Machine.cycles-made Machine.ticked Machine.efficient Machine.satisfied
-    Machine.next-desire Machine.closes Machine.closed Machine.tick Machine.top-desires Machine.call-answer Machine.step Machine.status
-    History.beginning History.history-grant History.history-tick History.history-step History.run-from History.run History.tasks-in
-    Log.entries-up-to Log.entries Log.run-calls Log.run-log Log.log-answer Label.lines-from Label.lines Label.label-answer Label.label
-    Counters.decimal-up-to Counters.decimal Counters.spaced Counters.counters Counters.counters-line Counters.counters-answer
-    Counters.buffer-after Program.plan-length Program.plan-part Program.log-part Program.input-questions Program.refused-line
-    Program.log-output Program.program
+    history-shown shown-twice statuses-from statuses plan-rows grant-rows tick-rows quantum-rows log-rows program-rows our-rows rows
+    below every keep member count-set all-set first-no flatMap Plan.predecessors Plan.number Plan.header Plan.task-bits
+    Plan.successor-fields Plan.plan-of Plan.fields-ok Plan.two-differ Plan.targets-ok Plan.task-questions Plan.all-preceded
+    Plan.one-exit Plan.header-questions Plan.graph-questions Plan.plan-questions Plan.plan-answer Machine.finished Machine.fresh
+    Machine.grant-questions Machine.kept-deques Machine.withdrawn-deques Machine.first-task-placed Machine.grant Machine.tick-questions
+    Machine.cycle-of Machine.ready Machine.released Machine.stolen-count Machine.left-by-steal Machine.taken-by-steal Machine.work-cycle
+    Machine.mug-cycle Machine.successful-steal Machine.failed-steal Machine.cycle Machine.cycles Machine.cycles-made Machine.ticked
+    Machine.efficient Machine.satisfied Machine.next-desire Machine.closes Machine.closed Machine.tick Machine.top-desires
+    Machine.call-answer Machine.step Machine.status History.beginning History.history-grant History.history-tick History.history-step
+    History.run-from History.run History.tasks-in Log.entries-up-to Log.entries Log.run-calls Log.run-log Log.log-answer
+    Label.lines-from Label.lines Label.label-answer Label.label Counters.decimal-up-to Counters.decimal Counters.spaced
+    Counters.counters Counters.counters-line Counters.counters-answer Counters.buffer-after Program.plan-length Program.plan-part
+    Program.log-part Program.input-questions Program.refused-line Program.log-output Program.program
 table = refl
 
 -- examples 3 and 4 by themselves, for a program that meets them from contracts alone: Plan A is accepted, a first grant of 2 is refused by

@@ -30,8 +30,7 @@ fn one_more(count: u16) -> u16
 // One predecessor more for the task s, up to 3. An unused field is noted at task 0, which has none.
 fn note(memory: &mut [u16; 4352], s: usize)
     requires { ⌜ s < 1024 ⌝ }
-    ensures { λ _. ⌜ parts-after memory ≡
-        with-pending (parts-before memory) (noted (parts-before memory .pending) s) ⌝ }
+    ensures { λ _. ⌜ parts-after memory ≡ with-pending (parts-before memory) (noted (parts-before memory .pending) s) ⌝ }
 {
     let at = 3072 + s;
     memory[at] = one_more(memory[at]);

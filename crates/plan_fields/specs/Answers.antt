@@ -2,8 +2,9 @@
 use mathlib.Core.Bool.{Bool, true, false}
 use Rattle.model.specs.Questions.{Answer, accepted, refused}
 use Rattle.plan_fields.specs.declared.PlanAnswer.{PlanAnswer}
-use Rattle.plan_fields.specs.declared.PlanAnswer.the-variants.{Accepted, Short, UnknownForm, LowResponsiveness, BadUtilization, NoQuantum}
-use Rattle.plan_fields.specs.declared.PlanAnswer.the-variants.{WrongLength, BadFields, BadSuccessors, BadPredecessors, LooseEnd}
+use Rattle.plan_fields.specs.declared.PlanAnswer.the-variants.{Accepted, Short, UnknownForm, LowResponsiveness, BadUtilization}
+use Rattle.plan_fields.specs.declared.PlanAnswer.the-variants.{NoQuantum, WrongLength, BadFields, BadSuccessors, BadPredecessors}
+use Rattle.plan_fields.specs.declared.PlanAnswer.the-variants.{LooseEnd}
 
 abbrev pub answer-of : PlanAnswer → Answer
 answer-of Accepted = accepted

@@ -36,7 +36,9 @@ module _ {memory words : List ℕ} {w choice : ℕ} {t : Tally} (turn : IdleTurn
     pub idled-nothing : getD (parts memory .ends) (size-at choice) 0 ≤ 1 → Idled memory words w choice t memory words t
     idled-nothing few =
         record {
-          cycled = rw (steal-added (numbers-in words) w t (turn .addable .counted)) (cycled-nothing (turn .turn) (turn .empty) (omega arith) (omega arith));
+          cycled =
+              rw (steal-added (numbers-in words) w t (turn .addable .counted))
+              (cycled-nothing (turn .turn) (turn .empty) (omega arith) (omega arith));
           same-works = refl;
           counted = omega (arith, turn .addable .counted);
           same-words = same-words words;
@@ -48,7 +50,9 @@ module _ {memory words : List ℕ} {w choice : ℕ} {t : Tally} (turn : IdleTurn
     idled-theft many theft stored =
         rw stored
         (record {
-          cycled = rw (success-added words w t (turn .addable .counted) (turn .addable .size), theft) (cycled-theft (turn .turn) (omega arith) (turn .empty) (omega arith));
+          cycled =
+              rw (success-added words w t (turn .addable .counted) (turn .addable .size), theft)
+              (cycled-theft (turn .turn) (omega arith) (turn .empty) (omega arith));
           same-works = refl;
           counted = omega (arith, turn .addable .counted);
           same-words =

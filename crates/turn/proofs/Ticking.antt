@@ -91,7 +91,8 @@ words-tail f = record { same-length = f .same-length; same-from = λ place h. f 
 pub record Underway (memory words choices memory′ words′ : List ℕ) (t : Tally) (i : ℕ) : Type 0 where
   pub part : i ≤ length choices
   pub shows : cycles (graph (parts memory) (numbers-in words .tasks)) 0 choices (view (parts memory) (numbers-in words))
-      ≡ cycles (graph (parts memory) (numbers-in words .tasks)) i (drop i choices) (view (parts memory′) (numbers-at (numbers-in words′) i t))
+      ≡ cycles (graph (parts memory) (numbers-in words .tasks)) i (drop i choices)
+      (view (parts memory′) (numbers-at (numbers-in words′) i t))
   pub sound : Sound (parts memory′) (numbers-at (numbers-in words′) i t)
   pub grown : Grown i (numbers-in words) (numbers-at (numbers-in words′) i t)
   pub mugged : numbers-at (numbers-in words′) i t .waiting + numbers-at (numbers-in words′) i t .mugs
@@ -159,7 +160,9 @@ module _ {memory words choices : List ℕ} (tick : TickTurn memory words choices
           }
 
       pub tick-finished : m′ .done ≡ m′ .tasks → Ticked memory words choices memory′ words″
-      tick-finished all = over (cycles-ended its-graph i e (drop i choices) (finished-shown (parts memory′) m′ (u .sound .kept .done-right) ∙ eq-eqb (m′ .done) (m′ .tasks) all))
+      tick-finished all =
+          over (cycles-ended its-graph i e (drop i choices)
+          (finished-shown (parts memory′) m′ (u .sound .kept .done-right) ∙ eq-eqb (m′ .done) (m′ .tasks) all))
 
       pub tick-over : length choices ≤ i → Ticked memory words choices memory′ words″
       tick-over h = over (cycles-none its-graph i e (drop i choices) (ap length (drop-of-length-le choices h)))

@@ -47,7 +47,8 @@ pub record SameButSuccesses (words words′ : List ℕ) : Type 0 where
 
 -- no task is worked
 pub record Idled (memory words : List ℕ) (w choice : ℕ) (t : Tally) (memory′ words′ : List ℕ) (t′ : Tally) : Type 0 where
-  pub cycled : Cycled (parts memory) (numbers-at (numbers-in words) w t) w choice (parts memory′) (numbers-at (numbers-in words′) (w + 1) t′)
+  pub cycled : Cycled (parts memory) (numbers-at (numbers-in words) w t) w choice
+      (parts memory′) (numbers-at (numbers-in words′) (w + 1) t′)
   pub same-works : t′ .works ≡ t .works
   pub counted : t′ .works .0 + t′ .mugs .0 ≤ w + 1
   pub same-words : SameButSuccesses words words′

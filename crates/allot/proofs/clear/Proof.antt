@@ -18,15 +18,6 @@ abbrev μ-loop : tie.MeasureT-loop
 loop-holds : tie.Need-loop-holds Inv-loop μ-loop
 loop-holds c = (clearing-none (parts (now (c .args .memory)) .ends) (c .args .workers) (c .args .g) (c .pre .0), no-move)
 
-put-requires : tie.Need-put-requires Inv-loop μ-loop
-put-requires c κs = omega arith
-
-add-worker : tie.Need-add-worker Inv-loop μ-loop
-add-worker c = omega arith
-
-loop-less : tie.Need-loop-less Inv-loop μ-loop
-loop-less c = omega arith
-
 loop-again : tie.Need-loop-again Inv-loop μ-loop
 loop-again c =
     let at = c .before .before .before .loop .inv in
@@ -39,5 +30,4 @@ returns c =
     (clearing-done (at .0) (c .before .before .pre .1) (c .loop-test .left), at .1)
 
 pub clear-spec : {M : Type 1} → statement M
-clear-spec =
-    tie.close (tie.spec Inv-loop μ-loop loop-holds put-requires add-worker loop-less loop-again returns)
+clear-spec = tie.close (tie.spec Inv-loop μ-loop loop-holds (λ c κs. omega arith) (λ c. omega arith) (λ c. omega arith) loop-again returns)

@@ -23,9 +23,6 @@ join-requires c κs = withdrawing-room (c .before .before .before .pre) (c .befo
 add-worker : tie.Need-add-worker Inv-loop μ-loop
 add-worker c = omega (arith, c .before .before .before .before .pre .some-workers)
 
-loop-less : tie.Need-loop-less Inv-loop μ-loop
-loop-less c = omega arith
-
 loop-again : tie.Need-loop-again Inv-loop μ-loop
 loop-again c =
     let at = c .before .before .before .loop .inv in (
@@ -39,5 +36,4 @@ returns c =
     (withdrawing-done (c .before .before .pre) (at .0) (c .loop-test .left), at .1)
 
 pub withdraw-spec : {M : Type 1} → statement M
-withdraw-spec =
-    tie.close (tie.spec Inv-loop μ-loop loop-holds join-requires add-worker loop-less loop-again returns)
+withdraw-spec = tie.close (tie.spec Inv-loop μ-loop loop-holds join-requires add-worker (λ c. omega arith) loop-again returns)

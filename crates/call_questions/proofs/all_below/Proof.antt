@@ -21,15 +21,6 @@ abbrev μ-loop : tie.MeasureT-loop
 loop-holds : tie.Need-loop-holds Inv-loop μ-loop
 loop-holds c = (omega arith, refl)
 
-shared-slice-read-below : tie.Need-shared-slice-read-below Inv-loop μ-loop
-shared-slice-read-below c = omega arith
-
-add-i : tie.Need-add-i Inv-loop μ-loop
-add-i c = omega arith
-
-loop-less : tie.Need-loop-less Inv-loop μ-loop
-loop-less c = omega arith
-
 loop-again : tie.Need-loop-again Inv-loop μ-loop
 loop-again c =
     let entry = c .before .before .before .args in
@@ -43,4 +34,4 @@ returns c =
     sym (head .inv .1 ∙ choices-passed (now (entry .choices)) (entry .workers) (head .i) (head .below) (omega arith))
 
 pub all-below-spec : {M : Type 1} → statement M
-all-below-spec = tie.close (tie.spec Inv-loop μ-loop loop-holds shared-slice-read-below add-i loop-less loop-again returns)
+all-below-spec = tie.close (tie.spec Inv-loop μ-loop loop-holds (λ c. omega arith) (λ c. omega arith) (λ c. omega arith) loop-again returns)

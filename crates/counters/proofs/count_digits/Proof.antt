@@ -15,39 +15,18 @@ Inv-loop n rest₀ count₀ rest count = (count + length (decimal rest) ≡ leng
 abbrev μ-loop : tie.MeasureT-loop
 μ-loop n rest₀ count₀ rest count = rest
 
-loop-holds : tie.Need-loop-holds Inv-loop μ-loop
-loop-holds c = omega arith
-
-add-count : tie.Need-add-count Inv-loop μ-loop
-add-count c = omega arith
-
-loop-less : tie.Need-loop-less Inv-loop μ-loop
-loop-less c = omega arith
-
 loop-again : tie.Need-loop-again Inv-loop μ-loop
 loop-again c =
     omega (arith, four-more (c .before .loop .rest) (c .loop-test .taken), at-most 19 (c .before .before .args .n) (omega arith))
 
-add-result : tie.Need-add-result Inv-loop μ-loop
-add-result c = omega arith
-
 returns : tie.Need-returns Inv-loop μ-loop
 returns c = omega (arith, one-long (c .before .before .loop .rest) (omega arith))
-
-add-result-2 : tie.Need-add-result-2 Inv-loop μ-loop
-add-result-2 c = omega arith
 
 returns-2 : tie.Need-returns-2 Inv-loop μ-loop
 returns-2 c = omega (arith, two-long (c .before .before .before .loop .rest) (omega arith) (omega arith))
 
-add-result-3 : tie.Need-add-result-3 Inv-loop μ-loop
-add-result-3 c = omega arith
-
 returns-3 : tie.Need-returns-3 Inv-loop μ-loop
 returns-3 c = omega (arith, three-long (c .before .before .before .before .loop .rest) (omega arith) (omega arith))
-
-add-result-4 : tie.Need-add-result-4 Inv-loop μ-loop
-add-result-4 c = omega arith
 
 returns-4 : tie.Need-returns-4 Inv-loop μ-loop
 returns-4 c = omega (arith, four-long (c .before .before .before .before .loop .rest) (omega arith) (omega arith))
@@ -55,18 +34,5 @@ returns-4 c = omega (arith, four-long (c .before .before .before .before .loop .
 pub count-digits-spec : {M : Type 1} → statement M
 count-digits-spec =
     tie.close
-    (tie.spec
-    Inv-loop
-    μ-loop
-    loop-holds
-    add-count
-    loop-less
-    loop-again
-    add-result
-    returns
-    add-result-2
-    returns-2
-    add-result-3
-    returns-3
-    add-result-4
-    returns-4)
+    (tie.spec Inv-loop μ-loop (λ c. omega arith) (λ c. omega arith) (λ c. omega arith) loop-again (λ c. omega arith) returns
+    (λ c. omega arith) returns-2 (λ c. omega arith) returns-3 (λ c. omega arith) returns-4)

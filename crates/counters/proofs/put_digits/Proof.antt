@@ -19,16 +19,10 @@ loop-holds c = spelling-first _ _ _ _ (c .before .pre .0) (c .before .pre .1)
 sub-left : tie.Need-sub-left Inv-loop μ-loop
 sub-left c = two-left _ _ _ _ _ _ (c .before .loop .inv) (c .loop-test .taken)
 
-add-put-pair : tie.Need-add-put-pair Inv-loop μ-loop
-add-put-pair c = omega arith
-
 put-pair-requires : tie.Need-put-pair-requires Inv-loop μ-loop
 put-pair-requires c κs =
     let s = c .before .before .loop .inv in
     (omega arith, omega (arith, s .within, two-left _ _ _ _ _ _ s (c .before .loop-test .taken)))
-
-loop-less : tie.Need-loop-less Inv-loop μ-loop
-loop-less c = omega arith
 
 loop-again : tie.Need-loop-again Inv-loop μ-loop
 loop-again c =
@@ -36,12 +30,6 @@ loop-again c =
     let h = c .before .before .before .before .loop-test .taken in
     let two = two-left _ _ _ _ _ _ (at-loop .loop .inv) h in
     rw (c .before .before .put-pair .ensures) (spelling-step _ _ _ _ _ _ (at-loop .loop .inv) h _ (omega arith))
-
-cast-buffer : tie.Need-cast-buffer Inv-loop μ-loop
-cast-buffer c = omega arith
-
-add-buffer : tie.Need-add-buffer Inv-loop μ-loop
-add-buffer c = omega arith
 
 slice-write-buffer : tie.Need-slice-write-buffer Inv-loop μ-loop
 slice-write-buffer c = spelling-one (c .before .before .loop .inv) (c .if1 .taken) .0
@@ -72,20 +60,5 @@ returns-2 c =
 pub put-digits-spec : {M : Type 1} → statement M
 put-digits-spec =
     tie.close
-    (tie.spec
-    Inv-loop
-    μ-loop
-    loop-holds
-    sub-left
-    add-put-pair
-    put-pair-requires
-    loop-less
-    loop-again
-    cast-buffer
-    add-buffer
-    slice-write-buffer
-    same-length
-    returns
-    put-pair-requires-2
-    same-length-2
-    returns-2)
+    (tie.spec Inv-loop μ-loop loop-holds sub-left (λ c. omega arith) put-pair-requires (λ c. omega arith) loop-again (λ c. omega arith)
+    (λ c. omega arith) slice-write-buffer same-length returns put-pair-requires-2 same-length-2 returns-2)

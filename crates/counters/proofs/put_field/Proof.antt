@@ -95,25 +95,6 @@ returns-3 c = (more c .after, more c .bytes)
 pub put-field-spec : {M : Type 1} → statement M
 put-field-spec =
     tie.close
-    (tie.spec
-    (λ c. search needs)
-    (λ c. search needs)
-    slice-write-buffer
-    (λ c. search needs)
-    slice-write-buffer-2
-    (λ c. search needs)
-    (λ c. search needs)
-    returns
-    put-pair-requires
-    (λ c. search needs)
-    slice-write-buffer-3
-    (λ c. search needs)
-    (λ c. search needs)
-    returns-2
-    (λ c κs. search needs)
-    put-digits-requires
-    add-next-3
-    slice-write-buffer-4
-    add-result-3
-    (λ c. search needs)
-    returns-3)
+    (tie.spec (λ c. search needs) (λ c. search needs) slice-write-buffer (λ c. search needs) slice-write-buffer-2 (λ c. search needs)
+    (λ c. search needs) returns put-pair-requires (λ c. search needs) slice-write-buffer-3 (λ c. search needs) (λ c. search needs)
+    returns-2 (λ c κs. search needs) put-digits-requires add-next-3 slice-write-buffer-4 add-result-3 (λ c. search needs) returns-3)

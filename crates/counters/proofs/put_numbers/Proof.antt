@@ -152,26 +152,7 @@ returns c =
 pub put-numbers-spec : {M : Type 1} → statement M
 put-numbers-spec =
     tie.close
-    (tie.spec
-    (λ c. search needs)
-    put-field-requires
-    (λ c. search needs)
-    put-field-requires-2
-    (λ c. search needs)
-    put-field-requires-3
-    (λ c. search needs)
-    put-field-requires-4
-    (λ c. search needs)
-    put-field-requires-5
-    (λ c. search needs)
-    put-field-requires-6
-    (λ c. search needs)
-    put-field-requires-7
-    (λ c. search needs)
-    put-field-requires-8
-    (λ c. search needs)
-    put-field-requires-9
-    (λ c. search needs)
-    put-field-requires-10
-    same-length
-    returns)
+    (tie.spec (λ c. search needs) put-field-requires (λ c. search needs) put-field-requires-2 (λ c. search needs) put-field-requires-3
+    (λ c. search needs) put-field-requires-4 (λ c. search needs) put-field-requires-5 (λ c. search needs) put-field-requires-6
+    (λ c. search needs) put-field-requires-7 (λ c. search needs) put-field-requires-8 (λ c. search needs) put-field-requires-9
+    (λ c. search needs) put-field-requires-10 same-length returns)

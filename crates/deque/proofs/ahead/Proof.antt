@@ -42,12 +42,6 @@ mul-task c = let l = link (c .before) in omega arith
 element-copy-out-task : tie.Need-element-copy-out-task Inv-loop μ-loop
 element-copy-out-task c = let l = link (c .before) in omega arith
 
-sub-left : tie.Need-sub-left Inv-loop μ-loop
-sub-left c = omega arith
-
-loop-less : tie.Need-loop-less Inv-loop μ-loop
-loop-less c = omega arith
-
 loop-again : tie.Need-loop-again Inv-loop μ-loop
 loop-again c =
     let l = link (c .before .before) in
@@ -64,15 +58,5 @@ returns c =
 pub ahead-spec : {M : Type 1} → statement M
 ahead-spec =
     tie.close
-    (tie.spec
-    Inv-loop
-    μ-loop
-    loop-holds
-    wide-requires
-    add-at
-    mul-task
-    element-copy-out-task
-    sub-left
-    loop-less
-    loop-again
-    returns)
+    (tie.spec Inv-loop μ-loop loop-holds wide-requires add-at mul-task element-copy-out-task (λ c. omega arith) (λ c. omega arith)
+    loop-again returns)

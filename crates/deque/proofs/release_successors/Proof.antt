@@ -20,5 +20,4 @@ returns-2 c =
     all-released _ _ _ _ (some .before .pre) (some .if1 .left) (c .before .before .release .ensures) (c .release2 .ensures)
 
 pub release-successors-spec : {M : Type 1} → statement M
-release-successors-spec =
-    tie.close (tie.spec returns release-requires release-requires-2 returns-2)
+release-successors-spec = tie.close (tie.spec returns release-requires release-requires-2 returns-2)

@@ -26,11 +26,4 @@ returns c =
 pub rob-spec : {M : Type 1} → statement M
 rob-spec =
     tie.close
-    (tie.spec
-    (λ c κs. search needs)
-    (λ c κs. search needs)
-    sub-left
-    ahead-requires
-    (λ c κs. search needs)
-    (λ c κs. search needs)
-    returns)
+    (tie.spec (λ c κs. search needs) (λ c κs. search needs) sub-left ahead-requires (λ c κs. search needs) (λ c κs. search needs) returns)

@@ -42,15 +42,5 @@ expect-requires-3 c κs =
 pub contracts-alone-spec : {M : Type 1} → statement M
 contracts-alone-spec =
     tie.close
-    (tie.spec
-    (λ c. search needs)
-    (λ c κs. search needs)
-    (λ c κs. search needs)
-    expect-requires
-    grant-requires
-    (λ c κs. search needs)
-    expect-requires-2
-    job-status-requires
-    (λ c κs. search needs)
-    expect-requires-3
-    (λ c. search needs))
+    (tie.spec (λ c. search needs) (λ c κs. search needs) (λ c κs. search needs) expect-requires grant-requires (λ c κs. search needs)
+    expect-requires-2 job-status-requires (λ c κs. search needs) expect-requires-3 (λ c. search needs))

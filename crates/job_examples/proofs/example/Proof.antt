@@ -15,11 +15,5 @@ played-requires c κs =
 pub example-spec : {M : Type 1} → statement M
 example-spec =
     tie.close
-    (tie.spec
-    (λ c κs. search needs)
-    (λ c κs. search needs)
-    played-requires
-    (λ c κs. c .played .ensures)
-    (λ c κs. c .before .played .ensures)
-    (λ c. search needs)
-    (λ c. search needs))
+    (tie.spec (λ c κs. search needs) (λ c κs. search needs) played-requires (λ c κs. c .played .ensures)
+    (λ c κs. c .before .played .ensures) (λ c. search needs) (λ c. search needs))

@@ -58,9 +58,6 @@ tick-read c = record { is = sym (c .before .before .read-entry .ensures) ∙ c .
 abbrev grant-told : tie.After-now-job Inv-loop μ-loop → tie.After-g Inv-loop μ-loop
 grant-told c = c .before .before .before
 
-cast-grant : tie.Need-cast-grant Inv-loop μ-loop
-cast-grant c = omega arith
-
 grant-requires : tie.Need-grant-requires Inv-loop μ-loop
 grant-requires c κs = job-now (c .before .before .before)
 
@@ -80,9 +77,6 @@ tick-told c = c .before .before .before .before
 
 add-past : tie.Need-add-past Inv-loop μ-loop
 add-past c = omega (arith, tick-inside (tick-read (c .before)), log-fits (c .before .before .before))
-
-sub-tick : tie.Need-sub-tick Inv-loop μ-loop
-sub-tick c = omega arith
 
 part-tick-start : tie.Need-part-tick-start Inv-loop μ-loop
 part-tick-start c = omega (arith, tick-inside (tick-read (c .before)))
@@ -110,27 +104,6 @@ returns-2 c = job-now (c .before .before)
 pub played-spec : {M : Type 1} → statement M
 played-spec =
     tie.close
-    (tie.spec
-    Inv-loop
-    μ-loop
-    (λ c κs. search needs)
-    (λ c. search needs)
-    (λ c κs. search needs)
-    (λ c. search needs)
-    cast-grant
-    grant-requires
-    add-at
-    loop-less
-    loop-again
-    (λ c. search needs)
-    add-past
-    sub-tick
-    part-tick-start
-    part-tick-end
-    tick-requires
-    loop-less-2
-    loop-again-2
-    (λ c. search needs)
-    returns
-    (λ c. search needs)
-    returns-2)
+    (tie.spec Inv-loop μ-loop (λ c κs. search needs) (λ c. search needs) (λ c κs. search needs) (λ c. search needs) (λ c. omega arith)
+    grant-requires add-at loop-less loop-again (λ c. search needs) add-past (λ c. omega arith) part-tick-start part-tick-end tick-requires
+    loop-less-2 loop-again-2 (λ c. search needs) returns (λ c. search needs) returns-2)

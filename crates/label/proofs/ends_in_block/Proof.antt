@@ -16,20 +16,8 @@ abbrev μ-loop : tie.MeasureT-loop
 loop-holds : tie.Need-loop-holds Inv-loop μ-loop
 loop-holds c = block-first _ _ (c .before .pre)
 
-add-is-end : tie.Need-add-is-end Inv-loop μ-loop
-add-is-end c = omega arith
-
-shared-slice-read-is-end : tie.Need-shared-slice-read-is-end Inv-loop μ-loop
-shared-slice-read-is-end c = omega arith
-
 add-ends : tie.Need-add-ends Inv-loop μ-loop
 add-ends c = omega (arith, c .before .before .before .loop .inv .most, c .before .before .before .loop .inv .upto, c .is-end .ensures .most)
-
-add-k : tie.Need-add-k Inv-loop μ-loop
-add-k c = omega arith
-
-loop-less : tie.Need-loop-less Inv-loop μ-loop
-loop-less c = omega arith
 
 loop-again : tie.Need-loop-again Inv-loop μ-loop
 loop-again c =
@@ -42,15 +30,5 @@ returns c = block-last _ _ (c .before .before .before .pre) (c .before .loop .in
 pub ends-in-block-spec : {M : Type 1} → statement M
 ends-in-block-spec =
     tie.close
-    (tie.spec
-    Inv-loop
-    μ-loop
-    loop-holds
-    add-is-end
-    shared-slice-read-is-end
-    (λ c κs. search needs)
-    add-ends
-    add-k
-    loop-less
-    loop-again
-    returns)
+    (tie.spec Inv-loop μ-loop loop-holds (λ c. omega arith) (λ c. omega arith) (λ c κs. search needs) add-ends (λ c. omega arith)
+    (λ c. omega arith) loop-again returns)

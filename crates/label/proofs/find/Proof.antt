@@ -15,16 +15,10 @@ Inv-loop sheet status left₀ start₀ end₀ left start end =
 abbrev μ-loop : tie.MeasureT-loop
 μ-loop sheet status left₀ start₀ end₀ left start end = length sheet - end
 
-line-end-requires : tie.Need-line-end-requires Inv-loop μ-loop
-line-end-requires c κs = omega arith
-
 loop-holds : tie.Need-loop-holds Inv-loop μ-loop
 loop-holds c =
     let found = c .line-end .ensures in
     (past-bytes (at-first (c .before .before .args .sheet .now) (c .before .before .args .status)) (found .passed), found .ended)
-
-sub-t8 : tie.Need-sub-t8 Inv-loop μ-loop
-sub-t8 c = omega arith
 
 returns : tie.Need-returns Inv-loop μ-loop
 returns c =
@@ -32,15 +26,6 @@ returns c =
     let inside = c .before .loop-test .taken in
     let ten = c .before .before .loop .inv .1 inside in
     (here-answer sought inside ten (omega arith), here sought inside ten (omega arith))
-
-sub-left : tie.Need-sub-left Inv-loop μ-loop
-sub-left c = omega arith
-
-add-start : tie.Need-add-start Inv-loop μ-loop
-add-start c = omega arith
-
-line-end-requires-2 : tie.Need-line-end-requires-2 Inv-loop μ-loop
-line-end-requires-2 c κs = omega arith
 
 loop-less : tie.Need-loop-less Inv-loop μ-loop
 loop-less c = omega (arith, c .before .before .loop-test .taken, c .line-end2 .ensures .passed .forward)
@@ -59,16 +44,5 @@ returns-2 c = (missing-answer (c .before .loop .inv .0) (c .loop-test .left), mi
 pub find-spec : {M : Type 1} → statement M
 find-spec =
     tie.close
-    (tie.spec
-    Inv-loop
-    μ-loop
-    line-end-requires
-    loop-holds
-    sub-t8
-    returns
-    sub-left
-    add-start
-    line-end-requires-2
-    loop-less
-    loop-again
-    returns-2)
+    (tie.spec Inv-loop μ-loop (λ c κs. omega arith) loop-holds (λ c. omega arith) returns (λ c. omega arith) (λ c. omega arith)
+    (λ c κs. omega arith) loop-less loop-again returns-2)

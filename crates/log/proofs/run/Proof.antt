@@ -71,9 +71,6 @@ grant-read : (c : tie.After-g Inv-loop μ-loop) →
     ReadAt (log-of read) (at-of read) (Grant (c .g .given .0 .0))
 grant-read c = record { is = sym (c .before .before .read-entry .ensures) ∙ c .g .given .1 }
 
-cast-grant : tie.Need-cast-grant Inv-loop μ-loop
-cast-grant c = omega arith
-
 grant-requires : tie.Need-grant-requires Inv-loop μ-loop
 grant-requires c κs = job-now (c .before .before .before .before .before)
 
@@ -108,9 +105,6 @@ tick-read c = record { is = sym (c .before .before .read-entry .ensures) ∙ c .
 
 add-past : tie.Need-add-past Inv-loop μ-loop
 add-past c = omega (arith, tick-inside (tick-read (c .before)), log-fits (c .before .before .before))
-
-sub-tick : tie.Need-sub-tick Inv-loop μ-loop
-sub-tick c = omega arith
 
 part-tick-start : tie.Need-part-tick-start Inv-loop μ-loop
 part-tick-start c = omega (arith, tick-inside (tick-read (c .before .before .before)))
@@ -157,31 +151,7 @@ returns-2 c =
 pub run-spec : {M : Type 1} → statement M
 run-spec =
     tie.close
-    (tie.spec
-    Inv-loop
-    μ-loop
-    (λ c κs. search needs)
-    loop-holds
-    (λ c κs. search needs)
-    (λ c. search needs)
-    cast-grant
-    grant-requires
-    (λ c κs. search needs)
-    add-count
-    add-at
-    loop-less
-    loop-again
-    (λ c. search needs)
-    add-past
-    sub-tick
-    part-tick-start
-    part-tick-end
-    tick-requires
-    (λ c κs. search needs)
-    add-count-2
-    loop-less-2
-    loop-again-2
-    (λ c. search needs)
-    returns
-    (λ c. search needs)
-    returns-2)
+    (tie.spec Inv-loop μ-loop (λ c κs. search needs) loop-holds (λ c κs. search needs) (λ c. search needs) (λ c. omega arith)
+    grant-requires (λ c κs. search needs) add-count add-at loop-less loop-again (λ c. search needs) add-past (λ c. omega arith)
+    part-tick-start part-tick-end tick-requires (λ c κs. search needs) add-count-2 loop-less-2 loop-again-2 (λ c. search needs) returns
+    (λ c. search needs) returns-2)

@@ -31,12 +31,4 @@ returns-4 c = simp (lt-ltb _ _ (c .before .before .before .if1 .left), le-ltb _ 
 pub entry-at-spec : {M : Type 1} → statement M
 entry-at-spec =
     tie.close
-    (tie.spec
-    returns
-    (λ c. search needs)
-    returns-2
-    cast-count
-    (λ c. search needs)
-    (λ c. search needs)
-    returns-3
-    returns-4)
+    (tie.spec returns (λ c. search needs) returns-2 cast-count (λ c. search needs) (λ c. search needs) returns-3 returns-4)

@@ -1,6 +1,5 @@
--- `log_reader::first_place` meets its contract: a walk of its MIR, by hand. A `LogReader` that `reader` returns is held in a local, and its place
--- is read. All that the proof knows of `reader` is that it meets its contract.
--- Assumes nothing.
+-- `log_reader::first_place` meets its contract: a walk of its MIR, by hand. A `LogReader` that `reader` returns is held in a local, and
+-- its place is read. All that the proof knows of `reader` is that it meets its contract. Assumes nothing.
 use mathlib.Core.Path.{_≡_, refl, ap}
 use Prim.Native.Nat.{ℕ}
 use mathlib.Core.List.{List, [], _∷_}
@@ -153,4 +152,5 @@ first-place-spec 𝓤 H 𝓜 𝓖 𝓡 =
     entered 𝓤 H (tripleOf 𝓤 H (𝓖 .A) place.signature (place.spec 𝓤 H (𝓖 .A) (𝓜 .mem) (𝓡 .run)))
     (tables 𝓤 H 𝓜 𝓡 code.env .C) (tables 𝓤 H 𝓜 𝓡 code.env .Λ) #log·first-place code.function (code.unfolded 𝓤 H 𝓜 𝓡)
     (place-meets 𝓤 H (𝓖 .A) (givenOf 𝓤 H 𝓜 𝓖) (𝓜 .mem) (𝓡 .run) (tablesOf 𝓤 H 𝓜 (tables 𝓤 H 𝓜 𝓡 code.env))
-    (cited 𝓤 H (New 𝓤 H (𝓖 .A) (𝓜 .mem) (𝓡 .run)) 𝓜 𝓡 code.env #log·reader new-def.routine code.calls-log-reader·reader (new-thm.met 𝓤 H 𝓜 𝓖 𝓡)))
+    (cited 𝓤 H (New 𝓤 H (𝓖 .A) (𝓜 .mem) (𝓡 .run)) 𝓜 𝓡 code.env #log·reader new-def.routine code.calls-log-reader·reader
+    (new-thm.met 𝓤 H 𝓜 𝓖 𝓡)))

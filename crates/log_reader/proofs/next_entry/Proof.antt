@@ -1,7 +1,6 @@
--- `log_reader::next_entry` meets its contract: a walk of its MIR, by hand. The reader is taken apart, and `entry_at` is called on the log and the
--- place. The reader is Copy: what it owns is had twice, one copy is kept whole for the exit, and of the other what the log owns goes to
--- the callee, beside the lifetime's token, which comes back.
--- Assumes nothing.
+-- `log_reader::next_entry` meets its contract: a walk of its MIR, by hand. The reader is taken apart, and `entry_at` is called on the log
+-- and the place. The reader is Copy: what it owns is had twice, one copy is kept whole for the exit, and of the other what the log owns
+-- goes to the callee, beside the lifetime's token, which comes back. Assumes nothing.
 use mathlib.Core.Path.{_≡_, refl}
 use Prim.Native.Nat.{_<_, _^_}
 use mathlib.Core.List.{[], _∷_}

@@ -58,15 +58,5 @@ returns-4 c = ap (past-entry (at-of (c .before .before))) (sym (sym (c .before .
 pub past-at-spec : {M : Type 1} → statement M
 past-at-spec =
     tie.close
-    (tie.spec
-    (λ c κs. search needs)
-    (λ c. search needs)
-    add-result
-    (λ c. search needs)
-    add-result-2
-    (λ c. search needs)
-    (λ c. search needs)
-    returns
-    returns-2
-    returns-3
-    returns-4)
+    (tie.spec (λ c κs. search needs) (λ c. search needs) add-result (λ c. search needs) add-result-2 (λ c. search needs)
+    (λ c. search needs) returns returns-2 returns-3 returns-4)

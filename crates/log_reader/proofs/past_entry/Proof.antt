@@ -1,9 +1,7 @@
--- `log_reader::past_entry` meets its contract: a walk of its MIR, by hand. The reader is taken apart, `past_at` is called on the log and the
--- place, and a reader is made of the same log and the place that it gave.
--- The reader is Copy: what it owns is had twice for the call, one copy is kept whole, and of the other what the log owns goes to the
--- callee, beside the lifetime's token, which comes back. At the exit it is had twice again: once for the reader passed, and once, with
--- the facts of the new place, for the result.
--- Assumes nothing.
+-- `log_reader::past_entry` meets its contract: a walk of its MIR, by hand. The reader is taken apart, `past_at` is called on the log and
+-- the place, and a reader is made of the same log and the place that it gave. The reader is Copy: what it owns is had twice for the call,
+-- one copy is kept whole, and of the other what the log owns goes to the callee, beside the lifetime's token, which comes back. At the
+-- exit it is had twice again: once for the reader passed, and once, with the facts of the new place, for the result. Assumes nothing.
 use mathlib.Core.Path.{_≡_, refl, ap}
 use Prim.Native.Nat.{ℕ, _<_, _^_}
 use mathlib.Core.List.{[], _∷_}

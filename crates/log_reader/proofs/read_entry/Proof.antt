@@ -1,7 +1,6 @@
--- `log_reader::read_entry` meets its contract: a walk of its MIR, by hand. A `LogReader` is made of the log and the place passed, in a local, and
--- passed to `next_entry`. All that the proof knows of `next_entry` is that it meets its contract.
--- A `&[u8]` is Copy, so what it owns is had twice: once for the log at exit, and once inside the reader, beside the facts of the place.
--- Assumes nothing.
+-- `log_reader::read_entry` meets its contract: a walk of its MIR, by hand. A `LogReader` is made of the log and the place passed, in a
+-- local, and passed to `next_entry`. All that the proof knows of `next_entry` is that it meets its contract. A `&[u8]` is Copy, so what it
+-- owns is had twice: once for the log at exit, and once inside the reader, beside the facts of the place. Assumes nothing.
 use mathlib.Core.Path.{_≡_, refl}
 use Prim.Native.Nat.{ℕ, _<_, _^_}
 use mathlib.Core.List.{List, [], _∷_}

@@ -1,6 +1,6 @@
--- `log_reader::reader` meets its contract: a walk of its MIR, by hand. A `LogReader` is made of the log passed and 0, in the result's local.
--- A `&[u8]` is Copy, so what it owns is had twice: once for the log at exit, and once inside the result, beside the facts of the place.
--- Assumes nothing.
+-- `log_reader::reader` meets its contract: a walk of its MIR, by hand. A `LogReader` is made of the log passed and 0, in the result's
+-- local. A `&[u8]` is Copy, so what it owns is had twice: once for the log at exit, and once inside the result, beside the facts of the
+-- place. Assumes nothing.
 use mathlib.Core.Path.{refl}
 use Prim.Native.Nat.{ℕ}
 use mathlib.Core.List.{List, [], _∷_}

@@ -26,12 +26,6 @@ loop-holds c = (omega arith, c .before .pre)
 read-task-requires : tie.Need-read-task-requires Inv-loop μ-loop
 read-task-requires c κs = (search needs, c .before .before .loop .inv .1)
 
-add-t : tie.Need-add-t Inv-loop μ-loop
-add-t c = omega arith
-
-loop-less : tie.Need-loop-less Inv-loop μ-loop
-loop-less c = omega arith
-
 loop-again : tie.Need-loop-again Inv-loop μ-loop
 loop-again c =
     let inv = head (c .before) .loop .inv in (
@@ -54,14 +48,5 @@ returns-2 c = tasks-all _ _ _ _ (c .before .loop .inv .1 .held) (omega arith)
 pub read-tasks-spec : {M : Type 1} → statement M
 read-tasks-spec =
     tie.close
-    (tie.spec
-    Inv-loop
-    μ-loop
-    loop-holds
-    read-task-requires
-    (λ c κs. search needs)
-    add-t
-    loop-less
-    loop-again
-    returns
+    (tie.spec Inv-loop μ-loop loop-holds read-task-requires (λ c κs. search needs) (λ c. omega arith) (λ c. omega arith) loop-again returns
     returns-2)

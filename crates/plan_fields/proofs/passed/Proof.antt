@@ -7,8 +7,9 @@ use Prim.Native.Nat.{ℕ}
 use denote.Enum.Declared.{tagOf}
 use types.Run.{OneOf, miss}
 use Rattle.plan_fields.specs.declared.PlanAnswer.{PlanAnswer}
-use Rattle.plan_fields.specs.declared.PlanAnswer.the-variants.{Accepted, Short, UnknownForm, LowResponsiveness, BadUtilization, NoQuantum}
-use Rattle.plan_fields.specs.declared.PlanAnswer.the-variants.{WrongLength, BadFields, BadSuccessors, BadPredecessors, LooseEnd}
+use Rattle.plan_fields.specs.declared.PlanAnswer.the-variants.{Accepted, Short, UnknownForm, LowResponsiveness, BadUtilization}
+use Rattle.plan_fields.specs.declared.PlanAnswer.the-variants.{NoQuantum, WrongLength, BadFields, BadSuccessors, BadPredecessors}
+use Rattle.plan_fields.specs.declared.PlanAnswer.the-variants.{LooseEnd}
 use Rattle.plan_fields.specs.Answers.{answer-of, passes}
 use Rattle.plan_fields.proofs.PlanAnswer.{the-type}
 use Rattle.plan_fields.proofs.passed.Statement.{statement}

@@ -32,6 +32,4 @@ returns-7 : tie.Need-returns-7
 returns-7 c = none _ _ _ _ _ (omega arith) (omega arith) (omega arith)
 
 pub task-answer-spec : {M : Type 1} → statement M
-task-answer-spec =
-    tie.close
-    (tie.spec (λ c κs. search needs) returns returns-2 returns-3 returns-4 returns-5 returns-6 returns-7)
+task-answer-spec = tie.close (tie.spec (λ c κs. search needs) returns returns-2 returns-3 returns-4 returns-5 returns-6 returns-7)

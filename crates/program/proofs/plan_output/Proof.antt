@@ -44,12 +44,5 @@ returns-2 c =
 pub plan-output-spec : {M : Type 1} → statement M
 plan-output-spec =
     tie.close
-    (tie.spec
-    (λ c κs. search needs)
-    (λ c κs. search needs)
-    (λ c κs. search needs)
-    (λ c κs. search needs)
-    returns
-    run-requires
-    ran-output-requires
-    returns-2)
+    (tie.spec (λ c κs. search needs) (λ c κs. search needs) (λ c κs. search needs) (λ c κs. search needs) returns run-requires
+    ran-output-requires returns-2)

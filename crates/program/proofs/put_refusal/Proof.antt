@@ -42,12 +42,4 @@ returns c = (put-there c .after, put-there c .bytes)
 pub put-refusal-spec : {M : Type 1} → statement M
 put-refusal-spec =
     tie.close
-    (tie.spec
-    (λ c. search needs)
-    put-bytes-requires
-    add-put-decimal
-    (λ c κs. search needs)
-    slice-write-out
-    add-result
-    same-length
-    returns)
+    (tie.spec (λ c. search needs) put-bytes-requires add-put-decimal (λ c κs. search needs) slice-write-out add-result same-length returns)

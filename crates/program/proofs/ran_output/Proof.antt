@@ -7,9 +7,6 @@ use Rattle.program.proofs.Ran.{whole-printed, refusal-room, broken-prin
 use Rattle.program.proofs.ran_output.Statement.{statement}
 use Rattle.program.proofs.ran_output.Tie as tie
 
-put-line-requires : tie.Need-put-line-requires
-put-line-requires c κs = omega arith
-
 put-refusal-requires : tie.Need-put-refusal-requires
 put-refusal-requires c κs =
     let line = c .before .before .before .before in
@@ -32,13 +29,5 @@ returns-2 c =
 pub ran-output-spec : {M : Type 1} → statement M
 ran-output-spec =
     tie.close
-    (tie.spec
-    (λ c κs. search needs)
-    (λ c. search needs)
-    put-line-requires
-    (λ c. search needs)
-    (λ c. search needs)
-    put-refusal-requires
-    returns
-    (λ c. search needs)
-    returns-2)
+    (tie.spec (λ c κs. search needs) (λ c. search needs) (λ c κs. omega arith) (λ c. search needs) (λ c. search needs) put-refusal-requires
+    returns (λ c. search needs) returns-2)

@@ -17,5 +17,4 @@ returns-3 c =
     (c .raised-desire .ensures)
 
 pub next-desire-spec : {M : Type 1} → statement M
-next-desire-spec =
-    tie.close (tie.spec (λ c κs. search needs) (λ c κs. search needs) returns returns-2 (λ c κs. search needs) returns-3)
+next-desire-spec = tie.close (tie.spec (λ c κs. search needs) (λ c κs. search needs) returns returns-2 (λ c κs. search needs) returns-3)

@@ -34,18 +34,5 @@ returns c = counted _ _ (status-known c .status-of .ensures)
 pub counters-of-spec : {M : Type 1} → statement M
 counters-of-spec =
     tie.close
-    (tie.spec
-    (λ c κs. search needs)
-    (λ c. search needs)
-    cast-worked
-    (λ c. search needs)
-    cast-tasks
-    (λ c. search needs)
-    cast-desire
-    (λ c. search needs)
-    cast-allotment
-    (λ c. search needs)
-    (λ c. search needs)
-    (λ c. search needs)
-    (λ c. search needs)
-    returns)
+    (tie.spec (λ c κs. search needs) (λ c. search needs) cast-worked (λ c. search needs) cast-tasks (λ c. search needs) cast-desire
+    (λ c. search needs) cast-allotment (λ c. search needs) (λ c. search needs) (λ c. search needs) (λ c. search needs) returns)

@@ -10,5 +10,4 @@ returns c =
     rw (← same) (c .wording .ensures)
 
 pub job-wording-spec : {M : Type 1} → statement M
-job-wording-spec =
-    tie.close (tie.spec (λ c κs. search needs) (λ c κs. search needs) (λ c κs. search needs) returns)
+job-wording-spec = tie.close (tie.spec (λ c κs. search needs) (λ c κs. search needs) (λ c κs. search needs) returns)

@@ -164,30 +164,6 @@ returns-2 c =
 pub cycles-spec : {M : Type 1} → statement M
 cycles-spec =
     tie.close
-    (tie.spec
-    Inv-loop
-    μ-loop
-    (λ c. search needs)
-    (λ c. search needs)
-    sub-left
-    (λ c κs. search needs)
-    loop-holds
-    mul-size-at
-    add-size-at
-    add-size-at-2
-    mul-if1
-    element-copy-out-if1
-    work-cycle-requires
-    add-work-requires
-    (λ c κs. search needs)
-    add-settle
-    settle-requires
-    returns
-    shared-slice-read-choice
-    cast-choice
-    idle-cycle-requires
-    add-w
-    loop-less
-    loop-again
-    settle-requires-2
-    returns-2)
+    (tie.spec Inv-loop μ-loop (λ c. search needs) (λ c. search needs) sub-left (λ c κs. search needs) loop-holds mul-size-at add-size-at
+    add-size-at-2 mul-if1 element-copy-out-if1 work-cycle-requires add-work-requires (λ c κs. search needs) add-settle settle-requires
+    returns shared-slice-read-choice cast-choice idle-cycle-requires add-w loop-less loop-again settle-requires-2 returns-2)

@@ -32,9 +32,6 @@ add-oldest c =
     let s = entry (c .before .before) in
     omega (arith, s .pre .addable .head-in-ring, s .pre .addable .room .mugs-fit, c .before .before .before .number .ensures)
 
-add-oldest-2 : tie.Need-add-oldest-2
-add-oldest-2 c = omega arith
-
 hand-over-requires : tie.Need-hand-over-requires
 hand-over-requires c κs = (omega arith, omega (arith, worker-place (entry (c .before .before .before) .pre .turn)))
 
@@ -91,23 +88,6 @@ returns-3 c =
 pub idle-cycle-spec : {M : Type 1} → statement M
 idle-cycle-spec =
     tie.close
-    (tie.spec
-    (λ c κs. search needs)
-    (λ c. search needs)
-    (λ c. search needs)
-    add-oldest
-    add-oldest-2
-    hand-over-requires
-    add-mug-requires
-    returns
-    mul-size-at
-    add-size-at
-    add-size-at-2
-    mul-if2
-    element-copy-out-if2
-    rob-requires
-    (λ c. search needs)
-    add-words
-    (λ c. search needs)
-    returns-2
-    returns-3)
+    (tie.spec (λ c κs. search needs) (λ c. search needs) (λ c. search needs) add-oldest (λ c. omega arith) hand-over-requires
+    add-mug-requires returns mul-size-at add-size-at add-size-at-2 mul-if2 element-copy-out-if2 rob-requires (λ c. search needs) add-words
+    (λ c. search needs) returns-2 returns-3)

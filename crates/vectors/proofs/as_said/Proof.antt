@@ -24,6 +24,4 @@ returns c =
     compared _ _ expected (c .same .ensures) ∙ ap (λ (printed : List ℕ). same-bytes printed expected) (ran .run .ensures .written)
 
 pub as-said-spec : {M : Type 1} → statement M
-as-said-spec =
-    tie.close
-    (tie.spec (λ c κs. search needs) array-share-prefix-bytes slice-aggregate-same (λ c κs. search needs) returns)
+as-said-spec = tie.close (tie.spec (λ c κs. search needs) array-share-prefix-bytes slice-aggregate-same (λ c κs. search needs) returns)

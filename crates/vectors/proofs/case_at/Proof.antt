@@ -93,27 +93,7 @@ returns-5 c =
 pub case-at-spec : {M : Type 1} → statement M
 case-at-spec =
     tie.close
-    (tie.spec
-    returns
-    (λ c. search needs)
-    returns-2
-    (λ c. search needs)
-    (λ c κs. search needs)
-    mul-input
-    (λ c. search needs)
-    (λ c. search needs)
-    (λ c κs. search needs)
-    mul-input-2
-    add-input
-    (λ c. search needs)
-    (λ c. search needs)
-    (λ c κs. search needs)
-    add-input-2
-    returns-3
-    (λ c. search needs)
-    (λ c. search needs)
-    (λ c. search needs)
-    (λ c κs. search needs)
-    (λ c. search needs)
-    returns-4
+    (tie.spec returns (λ c. search needs) returns-2 (λ c. search needs) (λ c κs. search needs) mul-input (λ c. search needs)
+    (λ c. search needs) (λ c κs. search needs) mul-input-2 add-input (λ c. search needs) (λ c. search needs) (λ c κs. search needs)
+    add-input-2 returns-3 (λ c. search needs) (λ c. search needs) (λ c. search needs) (λ c κs. search needs) (λ c. search needs) returns-4
     returns-5)

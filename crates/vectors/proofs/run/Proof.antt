@@ -123,29 +123,6 @@ returns-2 c =
 pub run-spec : {M : Type 1} → statement M
 run-spec =
     tie.close
-    (tie.spec
-    Inv-loop
-    μ-loop
-    loop-holds
-    (λ c κs. search needs)
-    (λ c. search needs)
-    add-start
-    add-place
-    add-next
-    add-end
-    sub-as-said
-    part-as-said-start
-    part-as-said-end
-    sub-as-said-2
-    part-as-said-start-2
-    part-as-said-end-2
-    (λ c κs. search needs)
-    (λ c κs. search needs)
-    add-same
-    add-cases
-    loop-less
-    loop-again
-    (λ c. search needs)
-    returns
-    (λ c. search needs)
-    returns-2)
+    (tie.spec Inv-loop μ-loop loop-holds (λ c κs. search needs) (λ c. search needs) add-start add-place add-next add-end sub-as-said
+    part-as-said-start part-as-said-end sub-as-said-2 part-as-said-start-2 part-as-said-end-2 (λ c κs. search needs) (λ c κs. search needs)
+    add-same add-cases loop-less loop-again (λ c. search needs) returns (λ c. search needs) returns-2)

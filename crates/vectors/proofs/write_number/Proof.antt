@@ -23,10 +23,5 @@ slice-aggregate-write-all c = sym (length-take-le _ _ (within (c .before .before
 pub write-number-spec : {M : Type 1} → statement M
 write-number-spec =
     tie.close
-    (tie.spec
-    (λ c. search needs)
-    (λ c κs. search needs)
-    array-share-prefix-digits
-    slice-aggregate-write-all
-    (λ c κs. search needs)
+    (tie.spec (λ c. search needs) (λ c κs. search needs) array-share-prefix-digits slice-aggregate-write-all (λ c κs. search needs)
     (λ c. search needs))

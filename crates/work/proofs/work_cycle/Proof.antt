@@ -195,54 +195,10 @@ returns-4 c = λ m turn.
 pub work-cycle-spec : {M : Type 1} → statement M
 work-cycle-spec =
     tie.close
-    (tie.spec
-    mul-front-at
-    add-front-at
-    mul-size-at
-    add-size-at
-    add-size-at-2
-    mul-front
-    element-copy-out-front
-    mul-size
-    element-copy-out-size
-    (λ c κs. search needs)
-    add-next-at
-    mul-rest
-    element-copy-out-rest
-    add-pending-at
-    mul-memory
-    element-write-memory
-    mul-one
-    element-copy-out-one
-    add-second-at
-    mul-two
-    element-copy-out-two
-    mul-memory-2
-    element-write-memory-2
-    sub-memory
-    mul-memory-3
-    element-write-memory-3
-    returns
-    (λ c κs. search needs)
-    add-awaits-at
-    mul-awaited
-    element-copy-out-awaited
-    sub-memory-2
-    mul-memory-4
-    element-write-memory-4
-    add-link-at
-    mul-memory-5
-    element-write-memory-5
-    mul-memory-6
-    element-write-memory-6
-    returns-2
-    mul-memory-7
-    element-write-memory-7
-    sub-memory-3
-    mul-memory-8
-    element-write-memory-8
-    returns-3
-    sub-t23
-    release-successors-requires
-    put-requires
+    (tie.spec mul-front-at add-front-at mul-size-at add-size-at add-size-at-2 mul-front element-copy-out-front mul-size
+    element-copy-out-size (λ c κs. search needs) add-next-at mul-rest element-copy-out-rest add-pending-at mul-memory element-write-memory
+    mul-one element-copy-out-one add-second-at mul-two element-copy-out-two mul-memory-2 element-write-memory-2 sub-memory mul-memory-3
+    element-write-memory-3 returns (λ c κs. search needs) add-awaits-at mul-awaited element-copy-out-awaited sub-memory-2 mul-memory-4
+    element-write-memory-4 add-link-at mul-memory-5 element-write-memory-5 mul-memory-6 element-write-memory-6 returns-2 mul-memory-7
+    element-write-memory-7 sub-memory-3 mul-memory-8 element-write-memory-8 returns-3 sub-t23 release-successors-requires put-requires
     returns-4)
