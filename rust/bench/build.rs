@@ -1,4 +1,4 @@
-//! Where the proved static library stands: target/jirvaldo of the repository.
+//! Where the proved static library stands: target/jirvaldo of the repository. And how far the code is moved: BENCH_PAD bytes, 0 by default.
 
 use std::env;
 
@@ -9,4 +9,7 @@ fn main() {
         "cargo:rerun-if-changed={}/target/jirvaldo/libjirvaldo.a",
         root
     );
+    let pad = env::var("BENCH_PAD").unwrap_or_else(|_| "0".into());
+    println!("cargo:rustc-env=BENCH_PAD={}", pad);
+    println!("cargo:rerun-if-env-changed=BENCH_PAD");
 }

@@ -1,14 +1,35 @@
-//! Measuring in several processes. Where a program's code and data come to lie differs from one process to the next, and with it the
-//! processor's guesses: one process alone can be some ten percent off for as long as it runs.
+//! Measuring in several processes and in several placements of the code. Where a program's code and data come to lie differs from one
+//! build and one process to the next, and with it the processor's guesses: one alone can be some tenths off, on every side.
 
 use std::env;
+use std::hint::black_box;
+use std::path::{Path, PathBuf};
 use std::process::Command;
 
 use crate::rows::{self, Row, SIDES};
 use crate::timing::{agree, measure, Rounds};
 
-const PROCESSES: usize = 9;
+/// So many processes for each placement.
+const PROCESSES: usize = 3;
 const ROUNDS: usize = 15;
+
+/// Code that is never run: so many bytes of it move all code behind it, the twin's and the library's.
+#[inline(never)]
+fn unrun() {
+    #[cfg(target_arch = "x86_64")]
+    unsafe {
+        std::arch::asm!(concat!(".skip ", env!("BENCH_PAD"), ", 0x90"))
+    }
+}
+
+/// The same program in several placements: those that BENCH_PLACEMENTS names, or this one alone.
+fn placements() -> Result<Vec<PathBuf>, String> {
+    black_box(unrun as fn());
+    match env::var_os("BENCH_PLACEMENTS") {
+        Some(paths) => Ok(env::split_paths(&paths).collect()),
+        None => Ok(vec![env::current_exe().map_err(|error| error.to_string())?]),
+    }
+}
 
 /// The rows of a set, by the set's name.
 fn set(name: &str) -> Result<Vec<Row>, String> {
@@ -38,7 +59,7 @@ pub struct Measured {
     pub rounds: Rounds,
 }
 
-/// Measures a set's rows in several processes, one after the other.
+/// Measures a set's rows in several processes of each placement, one after the other.
 pub fn measured(name: &str) -> Result<Vec<Measured>, String> {
     let named = |row: Row| Measured {
         name: row.name,
@@ -46,8 +67,9 @@ pub fn measured(name: &str) -> Result<Vec<Measured>, String> {
         rounds: Rounds::default(),
     };
     let mut results: Vec<Measured> = set(name)?.into_iter().map(named).collect();
-    for _ in 0..PROCESSES {
-        let text = run(name)?;
+    let placements = placements()?;
+    for program in placements.iter().cycle().take(PROCESSES * placements.len()) {
+        let text = run(program, name)?;
         let mut lines = text.lines();
         for result in &mut results {
             for side in 0..SIDES.len() {
@@ -63,9 +85,8 @@ pub fn measured(name: &str) -> Result<Vec<Measured>, String> {
     Ok(results)
 }
 
-/// What a process of this program prints that measures a set.
-fn run(name: &str) -> Result<String, String> {
-    let program = env::current_exe().map_err(|error| error.to_string())?;
+/// What a process prints that measures a set.
+fn run(program: &Path, name: &str) -> Result<String, String> {
     let output = Command::new(program).args(["samples", name]).output();
     let output = output.map_err(|error| error.to_string())?;
     if !output.status.success() {
