@@ -1,5 +1,5 @@
--- What a steal takes of a deque, and what it leaves: some of its tasks, and some. This is all that the laws and the code's proofs know of
--- the number of stolen tasks. Assumes nothing.
+-- What a steal takes of a deque, and what it leaves: not all is taken. This is all that the laws and the code's proofs know of the number of
+-- stolen tasks. Assumes nothing.
 use mathlib.Core.Path.{_≡_}
 use mathlib.Core.List.{List, _++_}
 use Prim.Native.Nat.{ℕ, _-_, _≤_, _<_}
@@ -7,11 +7,7 @@ use native.Mathlib.Omega.{arith}
 use lib.ListN.{length, length-take, take-append-drop}
 use Rattle.model.specs.Machine.{stolen-count, left-by-steal, taken-by-steal}
 
--- of two or more tasks a steal takes at least one, and not all
-pub some-taken : (n : ℕ) → 2 ≤ n → 1 ≤ stolen-count n
-unfolding stolen-count
-some-taken n two = omega arith
-
+-- of two or more tasks a steal does not take all
 pub some-left : (n : ℕ) → 2 ≤ n → stolen-count n < n
 unfolding stolen-count
 some-left n two = omega arith

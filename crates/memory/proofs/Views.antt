@@ -47,10 +47,6 @@ pub muggable-shown : (next ends : List ℕ) (head waiting : ℕ) → length (mug
 unfolding muggable-view
 muggable-shown next ends head waiting = table-length (λ j. deque-at next ends (ring-place head j)) waiting
 
-pub worked-at : (pending : List ℕ) (n t : ℕ) → t < n → getD (worked-view pending n) t false ≡ eqb (getD pending t 0) worked-mark
-unfolding worked-view
-worked-at pending n t h = table-at (λ s. eqb (getD pending s 0) worked-mark) n t false h
-
 pub flags-shown : (pending : List ℕ) (n : ℕ) → length (worked-view pending n) ≡ n
 unfolding worked-view
 flags-shown pending n = table-length (λ s. eqb (getD pending s 0) worked-mark) n
