@@ -1,4 +1,6 @@
 // A grant, in place over the ends of the deques (document 01, "Grant"). What it does depends on no task and no link.
+use memory::Memory;
+use memory::Words;
 ghost use mathlib.Core.Path.{_≡_};
 ghost use Prim.Native.Nat.{_≤_};
 ghost use lib.ListN.{length};
@@ -7,7 +9,7 @@ ghost use Rattle.allot.specs.Grants.{Joined, joining-deque, Joinable, jo
 use memory::Deque;
 
 // A worker's deque joins the end of the muggable ones; an empty one vanishes. How many wait then.
-fn join(memory: &mut [u16; 4352], head: usize, waiting: usize, worker: usize) -> usize
+fn join(memory: &mut Memory, head: usize, waiting: usize, worker: usize) -> usize
     requires { ⌜ Joinable (parts (now memory) .ends) head waiting worker ⌝ }
     ensures joined { λ r. ⌜ Joined head (parts-before memory .ends) waiting (parts-after memory .ends) r
         (joining-deque (parts-before memory .ends) worker) ⌝ }
@@ -23,13 +25,7 @@ fn join(memory: &mut [u16; 4352], head: usize, waiting: usize, worker: usize) ->
 }
 
 // "workers g and up are withdrawn; their non-empty lines join the end of the orphans in rising worker order". How many wait then.
-fn withdraw(
-    memory: &mut [u16; 4352],
-    head: usize,
-    waiting: usize,
-    g: usize,
-    workers: usize,
-) -> usize
+fn withdraw(memory: &mut Memory, head: usize, waiting: usize, g: usize, workers: usize) -> usize
     requires { ⌜ Withdrawable (parts (now memory) .ends) head waiting g workers ⌝ }
     ensures joined { λ r. ⌜ Joined head (parts-before memory .ends) waiting (parts-after memory .ends) r
         (joining-withdrawn (parts-before memory .ends) g workers) ⌝ }
@@ -45,7 +41,7 @@ fn withdraw(
 }
 
 // "If g exceeds the last granted count, the new workers have empty lines."
-fn clear(memory: &mut [u16; 4352], workers: usize, g: usize)
+fn clear(memory: &mut Memory, workers: usize, g: usize)
     requires { ⌜ (length (parts (now memory) .ends) ≡ 256) × (g ≤ 64) ⌝ }
     ensures cleared { λ _. ⌜ Cleared (parts-before memory .ends) workers g (parts-after memory .ends) ⌝ }
     ensures rest { λ _. ⌜ SameButEnds (parts-before memory) (parts-after memory) ⌝ }
@@ -59,19 +55,19 @@ fn clear(memory: &mut [u16; 4352], workers: usize, g: usize)
 
 // A grant of g: its workers, no usage yet, and the muggable deques that wait then. If nothing above 0 was granted before, and g is above 0,
 // task 0 becomes worker 0's deque.
-pub fn allot(memory: &mut [u16; 4352], words: &mut [u64; 18], g: usize)
+pub fn allot(memory: &mut Memory, words: &mut Words, g: usize)
     requires { ⌜ Grantable (now memory) (now words) g ⌝ }
     ensures { λ _. ⌜ Granted (now (memory .entry)) (now (words .entry)) g (now (memory .exit)) (now (words .exit)) ⌝ }
 {
-    let workers = words[1] as usize;
-    let head = words[8] as usize;
-    let before = words[9] as usize;
-    let started = words[14];
+    let workers = words[memory::WORKERS] as usize;
+    let head = words[memory::HEAD] as usize;
+    let before = words[memory::WAITING] as usize;
+    let started = words[memory::STARTED];
     let waiting = withdraw(memory, head, before, g, workers);
     clear(memory, workers, g);
-    words[1] = g as u64;
-    words[7] = 0;
-    words[9] = waiting as u64;
+    words[memory::WORKERS] = g as u64;
+    words[memory::USAGE] = 0;
+    words[memory::WAITING] = waiting as u64;
     if started != 0 {
         return;
     }

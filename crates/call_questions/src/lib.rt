@@ -1,4 +1,5 @@
 // The questions of a grant and of a tick, 11 to 17, asked of a job's words.
+use memory::Words;
 ghost use mathlib.Core.Path.{_≡_};
 ghost use Prim.Native.Nat.{_<_};
 ghost use Rattle.model.specs.Questions.{answer-number, first-no};
@@ -38,19 +39,19 @@ pub fn number(answer: CallAnswer) -> u8
 }
 
 // Questions 11 to 14.
-pub fn grant_answer(words: &[u64; 18], g: u64) -> CallAnswer
+pub fn grant_answer(words: &Words, g: u64) -> CallAnswer
     ensures { λ r. ⌜ answer-of r ≡ first-no (grant-asked (now (words .entry)) g) ⌝ }
 {
-    if words[2] == words[0] {
+    if words[memory::DONE] == words[memory::TASKS] {
         return CallAnswer::Finished;
     }
-    if words[15] != 0 {
+    if words[memory::OPEN] != 0 {
         return CallAnswer::QuantumOpen;
     }
-    if words[17] >= QUANTUM_LIMIT {
+    if words[memory::BEGUN] >= QUANTUM_LIMIT {
         return CallAnswer::QuantaSpent;
     }
-    if g > words[13] {
+    if g > words[memory::DESIRE] {
         return CallAnswer::AboveDesire;
     }
     CallAnswer::Accepted
@@ -70,17 +71,17 @@ fn all_below(choices: &[u8], workers: u8) -> bool
 }
 
 // Questions 11 and 15 to 17. As many choices as workers are at most 64, so that the number of workers fits a byte where 17 is asked.
-pub fn tick_answer(words: &[u64; 18], choices: &[u8]) -> CallAnswer
+pub fn tick_answer(words: &Words, choices: &[u8]) -> CallAnswer
     requires { ⌜ numbers-in (now words) .workers < 256 ⌝ }
     ensures { λ r. ⌜ answer-of r ≡ first-no (tick-asked (now (words .entry)) (now (choices .entry))) ⌝ }
 {
-    if words[2] == words[0] {
+    if words[memory::DONE] == words[memory::TASKS] {
         return CallAnswer::Finished;
     }
-    if words[15] == 0 {
+    if words[memory::OPEN] == 0 {
         return CallAnswer::NoQuantum;
     }
-    let workers = words[1];
+    let workers = words[memory::WORKERS];
     if choices.len() as u64 != workers {
         return CallAnswer::WrongChoiceCount;
     }

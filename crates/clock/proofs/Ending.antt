@@ -44,9 +44,7 @@ stays-open =
     (λ w is-open unclosed.
     record {
       shows = λ memory right. rw (unclosed memory right, is-open, add-one) refl;
-      same-size = refl;
-      same-numbers = refl;
-      same-plan = λ memory. refl;
+      rest = record { same-size = refl; same-numbers = refl; same-plan = λ memory. refl };
     })
 
 module _ (words : List ℕ) (sized : length words ≡ word-count) (is-open : open-in words ≡ true) where
@@ -94,8 +92,6 @@ closed-ended words sized undone last desire after =
             next .next,
           )
           refl;
-      same-size = refl;
-      same-numbers = refl;
-      same-plan = λ memory. refl;
+      rest = record { same-size = refl; same-numbers = refl; same-plan = λ memory. refl };
     })
     words sized undone last after

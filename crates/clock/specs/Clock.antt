@@ -15,6 +15,12 @@ use Rattle.memory.specs.View.{view, worked-view}
 use Rattle.memory.specs.Jobs.{lent, job-parts, job-numbers, job-plan, job-state}
 use Rattle.quantum.specs.Closing.{Closable}
 
+-- only the desire and the words of the quantum may differ
+pub record SameButClock (words words′ : List ℕ) : Type 0 where
+  pub same-size : length words′ ≡ length words
+  pub same-numbers : numbers-in words′ ≡ numbers-in words
+  pub same-plan : (memory : List ℕ) → job-plan (lent memory words′) ≡ job-plan (lent memory words)
+
 -- ---- a quantum opens
 
 -- what opening a quantum with g workers does to a state, beside the deques
@@ -33,12 +39,10 @@ pub record Openable (words : List ℕ) : Type 0 where
   pub size : length words ≡ word-count
   pub more : begun-in words < quantum-limit
 
--- the quantum is opened, and nothing else is moved
+-- the quantum is opened
 pub record Opened (words : List ℕ) (g : ℕ) (words′ : List ℕ) : Type 0 where
   pub shows : (memory : List ℕ) → job-state (lent memory words′) ≡ quantum-opened g (job-state (lent memory words))
-  pub same-size : length words′ ≡ length words
-  pub same-numbers : numbers-in words′ ≡ numbers-in words
-  pub same-plan : (memory : List ℕ) → job-plan (lent memory words′) ≡ job-plan (lent memory words)
+  pub rest : SameButClock words words′
 
 -- ---- a tick is counted
 
@@ -71,6 +75,4 @@ pub record Countable (words : List ℕ) : Type 0 where
 pub record TickEnded (words words′ : List ℕ) : Type 0 where
   pub shows : (memory : List ℕ) → numbers-in words .done ≡ count-set (worked-view (parts memory .pending) (numbers-in words .tasks)) →
       job-state (lent memory words′) ≡ quantum-ended (job-plan (lent memory words)) (tick-counted (lent memory words))
-  pub same-size : length words′ ≡ length words
-  pub same-numbers : numbers-in words′ ≡ numbers-in words
-  pub same-plan : (memory : List ℕ) → job-plan (lent memory words′) ≡ job-plan (lent memory words)
+  pub rest : SameButClock words words′

@@ -2,6 +2,7 @@
 // fields are private, and what stands here is all that can be done with a count: none, one more, the number to show, and adding it to the
 // word that keeps its kind; the steal cycles of a tick are those of neither other kind. So adding one kind to another cannot be written
 // elsewhere.
+use memory::Words;
 ghost use mathlib.Core.Path.{_≡_};
 ghost use Prim.Native.Nat.{_+_, _-_, _≤_, _<_, _^_};
 ghost use lib.ListN.{getD, set};
@@ -31,11 +32,11 @@ impl WorkCycles {
     }
 
     // The count is added to the word that keeps it.
-    pub fn add_to(self, words: &mut [u64; 18])
+    pub fn add_to(self, words: &mut Words)
         requires { ⌜ getD (now words) 3 0 + self .0 < 2 ^ 64 ⌝ }
         ensures { λ _. ⌜ now (words .exit) ≡ set (now (words .entry)) 3 (getD (now (words .entry)) 3 0 + self .0) ⌝ }
     {
-        words[3] = words[3] + self.0;
+        words[memory::WORKS] = words[memory::WORKS] + self.0;
     }
 }
 
@@ -64,11 +65,11 @@ impl MugCycles {
     }
 
     // The count is added to the word that keeps it.
-    pub fn add_to(self, words: &mut [u64; 18])
+    pub fn add_to(self, words: &mut Words)
         requires { ⌜ getD (now words) 4 0 + self .0 < 2 ^ 64 ⌝ }
         ensures { λ _. ⌜ now (words .exit) ≡ set (now (words .entry)) 4 (getD (now (words .entry)) 4 0 + self .0) ⌝ }
     {
-        words[4] = words[4] + self.0;
+        words[memory::MUGS] = words[memory::MUGS] + self.0;
     }
 }
 
@@ -85,11 +86,11 @@ impl StealCycles {
     }
 
     // The count is added to the word that keeps it.
-    pub fn add_to(self, words: &mut [u64; 18])
+    pub fn add_to(self, words: &mut Words)
         requires { ⌜ getD (now words) 5 0 + self .0 < 2 ^ 64 ⌝ }
         ensures { λ _. ⌜ now (words .exit) ≡ set (now (words .entry)) 5 (getD (now (words .entry)) 5 0 + self .0) ⌝ }
     {
-        words[5] = words[5] + self.0;
+        words[memory::STEALS] = words[memory::STEALS] + self.0;
     }
 }
 

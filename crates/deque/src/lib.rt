@@ -1,5 +1,6 @@
 // The deques of all workers, in place in a job's memory, over one shared part of links. A deque is a front and a size, and what the links
 // hold past the size is ignored.
+use memory::Memory;
 ghost use mathlib.Core.Path.{_≡_};
 ghost use Prim.Native.Nat.{_<_};
 ghost use Rattle.model.specs.Machine.{stolen-count};
@@ -17,12 +18,12 @@ pub fn wide(x: u16) -> usize
 }
 
 // The deque at a place.
-pub fn deque_at(memory: &[u16; 4352], place: usize) -> Deque
+pub fn deque_at(memory: &Memory, place: usize) -> Deque
     requires { ⌜ place < 128 ⌝ }
     ensures { λ r. ⌜ r ≡ ends-at (parts-before memory .ends) place ⌝ }
 {
-    let front_at = 4096 + 2 * place;
-    let size_at = 4096 + (2 * place + 1);
+    let front_at = memory::ENDS + 2 * place;
+    let size_at = memory::ENDS + (2 * place + 1);
     Deque {
         front: memory[front_at],
         size: memory[size_at],
@@ -30,18 +31,18 @@ pub fn deque_at(memory: &[u16; 4352], place: usize) -> Deque
 }
 
 // A deque is put at a place.
-pub fn put(memory: &mut [u16; 4352], place: usize, deque: Deque)
+pub fn put(memory: &mut Memory, place: usize, deque: Deque)
     requires { ⌜ place < 128 ⌝ }
     ensures { λ _. ⌜ parts-after memory ≡ put-part (parts-before memory) place deque ⌝ }
 {
-    let front_at = 4096 + 2 * place;
-    let size_at = 4096 + (2 * place + 1);
+    let front_at = memory::ENDS + 2 * place;
+    let size_at = memory::ENDS + (2 * place + 1);
     memory[front_at] = deque.front;
     memory[size_at] = deque.size;
 }
 
 // The deque at one place becomes that of another, whole.
-pub fn hand_over(memory: &mut [u16; 4352], from: usize, to: usize)
+pub fn hand_over(memory: &mut Memory, from: usize, to: usize)
     requires { ⌜ (from < 128) × (to < 128) ⌝ }
     ensures { λ _. ⌜ parts-after memory ≡ put-part (parts-before memory) to (ends-at (parts-before memory .ends) from) ⌝ }
 {
@@ -50,14 +51,14 @@ pub fn hand_over(memory: &mut [u16; 4352], from: usize, to: usize)
 }
 
 // The task that so many links lead to.
-pub fn ahead(memory: &[u16; 4352], front: u16, steps: u16) -> u16
+pub fn ahead(memory: &Memory, front: u16, steps: u16) -> u16
     requires { ⌜ Reachable (parts (now memory) .next) front steps ⌝ }
     ensures { λ r. ⌜ r ≡ link-after (parts-before memory .next) front steps ⌝ }
 {
     let mut task = front;
     let mut left = steps;
     while left > 0 {
-        let at = 2048 + wide(task);
+        let at = memory::NEXT + wide(task);
         task = memory[at];
         left -= 1;
     }
@@ -72,7 +73,7 @@ fn stolen_count(size: u16) -> u16
 }
 
 // The back part of the victim's deque becomes the thief's.
-pub fn rob(memory: &mut [u16; 4352], thief: usize, victim: usize)
+pub fn rob(memory: &mut Memory, thief: usize, victim: usize)
     requires { ⌜ Robbable (parts (now memory)) thief victim ⌝ }
     ensures { λ _. ⌜ parts-after memory ≡ robbed (parts-before memory) thief victim ⌝ }
 {
@@ -93,7 +94,7 @@ pub fn rob(memory: &mut [u16; 4352], thief: usize, victim: usize)
 
 // A predecessor of `task` was worked. If it was the last one that `task` awaited, `task` goes to the front of the deque. An unused field,
 // 0, is no task. A deque that stays is made anew from its parts: as a whole it would travel packed in one word.
-pub fn release(memory: &mut [u16; 4352], task: u16, deque: Deque) -> Deque
+pub fn release(memory: &mut Memory, task: u16, deque: Deque) -> Deque
     requires { ⌜ Releasable (parts (now memory)) task deque ⌝ }
     ensures { λ r. ⌜ Released (parts-before memory) task deque (parts-after memory) r ⌝ }
 {
@@ -104,7 +105,7 @@ pub fn release(memory: &mut [u16; 4352], task: u16, deque: Deque) -> Deque
             size: deque.size,
         };
     }
-    let pending_at = 3072 + at;
+    let pending_at = memory::PENDING + at;
     let awaited = memory[pending_at];
     memory[pending_at] = awaited - 1;
     if awaited > 1 {
@@ -113,7 +114,7 @@ pub fn release(memory: &mut [u16; 4352], task: u16, deque: Deque) -> Deque
             size: deque.size,
         };
     }
-    let next_at = 2048 + at;
+    let next_at = memory::NEXT + at;
     memory[next_at] = deque.front;
     Deque {
         front: task,
@@ -123,7 +124,7 @@ pub fn release(memory: &mut [u16; 4352], task: u16, deque: Deque) -> Deque
 
 // A task with the successor fields `one` and `two` was worked: of the two tasks that became ready, the second goes to the front, then the
 // first before it.
-pub fn release_successors(memory: &mut [u16; 4352], one: u16, two: u16, deque: Deque) -> Deque
+pub fn release_successors(memory: &mut Memory, one: u16, two: u16, deque: Deque) -> Deque
     requires { ⌜ AllReleasable (parts (now memory)) one two deque ⌝ }
     ensures { λ r. ⌜ AllReleased (parts-before memory) one two deque (parts-after memory) r ⌝ }
 {

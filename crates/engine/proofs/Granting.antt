@@ -95,7 +95,7 @@ module _ {plan : Plan} {calls : List Call} {memory words : List ℕ} (g : ℕ) (
       granted-moves =
           let same = granted .same-parts in
           accepted-moves (grants g) grant-is-accepted granted-stepped
-          (began .same-plan memory′
+          (began .rest .same-plan memory′
           ∙ plan-stays memory words memory′ words₁ (granted .tail) same-tasks
           (record { same-first = same .same-first; same-second = same .same-second }))
           (record {
@@ -105,5 +105,5 @@ module _ {plan : Plan} {calls : List Call} {memory words : List ℕ} (g : ℕ) (
             numbers = rw (same .same-pending) (r .parts-sized .numbers);
             places = granted .places;
           })
-          (began .same-size ∙ granted .tail .same-length ∙ r .words-sized)
-          (subst (λ (m : Numbers). Kept (graph (parts memory′) (m .tasks)) (parts memory′) m) (sym (began .same-numbers)) granted-kept)
+          (began .rest .same-size ∙ granted .tail .same-length ∙ r .words-sized)
+          (subst (λ (m : Numbers). Kept (graph (parts memory′) (m .tasks)) (parts memory′) m) (sym (began .rest .same-numbers)) granted-kept)

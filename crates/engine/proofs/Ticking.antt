@@ -173,9 +173,9 @@ module _ {plan : Plan} {calls : List Call} {memory words : List ℕ} (choices : 
 
       ticked-moves : Moves (ticks choices) job (lent memory′ words′)
       ticked-moves =
-          accepted-moves (ticks choices) tick-is-accepted ticked-stepped (ended .same-plan memory′ ∙ plan-after-cycles) sizes
-          (ended .same-size ∙ tail .same-length ∙ r .words-sized)
-          (subst (λ (m : Numbers). Kept (graph (parts memory′) (m .tasks)) (parts memory′) m) (sym (ended .same-numbers)) kept)
+          accepted-moves (ticks choices) tick-is-accepted ticked-stepped (ended .rest .same-plan memory′ ∙ plan-after-cycles) sizes
+          (ended .rest .same-size ∙ tail .same-length ∙ r .words-sized)
+          (subst (λ (m : Numbers). Kept (graph (parts memory′) (m .tasks)) (parts memory′) m) (sym (ended .rest .same-numbers)) kept)
 
   -- ---- what the function promises
 

@@ -1,6 +1,8 @@
 // The in-place core of a job: acceptance, a grant and a tick, each in the memory and the words that are lent. Nothing is copied, and a call
 // reads and writes the words that it needs.
 use call_questions::CallAnswer;
+use memory::Memory;
+use memory::Words;
 use plan_fields::PlanAnswer;
 ghost use mathlib.Core.Path.{_≡_};
 ghost use Rattle.model.specs.Plan.{plan-answer};
@@ -13,7 +15,7 @@ ghost use Rattle.engine.specs.Moves.{Accepts, Moves};
 
 // A plan of any bytes: the memory and the words hold its fresh job, whatever they held before; or the number of the first "no", and they
 // stay as they came.
-pub fn accept(bytes: &[u8], memory: &mut [u16; 4352], words: &mut [u64; 18]) -> PlanAnswer
+pub fn accept(bytes: &[u8], memory: &mut Memory, words: &mut Words) -> PlanAnswer
     ensures answered { λ r. ⌜ plan-answer-of r ≡ plan-answer (now (bytes .entry)) ⌝ }
     ensures accepts { λ _. ⌜ Accepts (now (bytes .entry)) (job-before memory words) (job-after memory words) ⌝ }
 {
@@ -50,7 +52,7 @@ pub fn accept(bytes: &[u8], memory: &mut [u16; 4352], words: &mut [u64; 18]) -> 
 }
 
 // "A grant of g", any number of workers. Refused, it changes nothing.
-pub fn grant(memory: &mut [u16; 4352], words: &mut [u64; 18], g: u64) -> CallAnswer
+pub fn grant(memory: &mut Memory, words: &mut Words, g: u64) -> CallAnswer
     requires { ⌜ IsJob (job memory words) ⌝ }
     ensures answered { λ r. ⌜ answer-of r ≡ call-answer (grants g) (job-state (job-before memory words)) ⌝ }
     ensures moves { λ _. ⌜ Moves (grants g) (job-before memory words) (job-after memory words) ⌝ }
@@ -65,7 +67,7 @@ pub fn grant(memory: &mut [u16; 4352], words: &mut [u64; 18], g: u64) -> CallAns
 }
 
 // "A tick": the workers' cycles, then the end of the tick. Refused, it changes nothing.
-pub fn tick(memory: &mut [u16; 4352], words: &mut [u64; 18], choices: &[u8]) -> CallAnswer
+pub fn tick(memory: &mut Memory, words: &mut Words, choices: &[u8]) -> CallAnswer
     requires { ⌜ IsJob (job memory words) ⌝ }
     ensures answered { λ r. ⌜ answer-of r ≡ call-answer (ticks (now (choices .entry))) (job-state (job-before memory words)) ⌝ }
     ensures moves { λ _. ⌜ Moves (ticks (now (choices .entry))) (job-before memory words) (job-after memory words) ⌝ }
@@ -74,7 +76,7 @@ pub fn tick(memory: &mut [u16; 4352], words: &mut [u64; 18], choices: &[u8]) -> 
     let CallAnswer::Accepted = answer else {
         return answer;
     };
-    if words[1] == 0 {
+    if words[memory::WORKERS] == 0 {
         clock::end_tick(words);
         return answer;
     }

@@ -1,5 +1,7 @@
 // The static library: a job in memory that the caller lends, for C and Rust, moved in place by `engine`. Each function answers with
 // document 01's number of the refusal, or 0.
+use memory::Memory;
+use memory::Words;
 ghost use mathlib.Core.Path.{_≡_};
 ghost use Rattle.model.specs.Questions.{answer-number};
 ghost use Rattle.model.specs.Plan.{plan-answer};
@@ -13,11 +15,7 @@ use label::Found;
 
 // A plan of any bytes: the memory becomes its fresh job, whatever it held before. Refused, the memory stays as it came.
 #[no_mangle]
-pub extern "C" fn jirvaldo_core_accept(
-    plan: &[u8],
-    memory: &mut [u16; 4352],
-    words: &mut [u64; 18],
-) -> u8
+pub extern "C" fn jirvaldo_core_accept(plan: &[u8], memory: &mut Memory, words: &mut Words) -> u8
     ensures answered { λ r. ⌜ r ≡ answer-number (plan-answer (now (plan .entry))) ⌝ }
     ensures accepts { λ _. ⌜ Accepts (now (plan .entry)) (job-before memory words) (job-after memory words) ⌝ }
 {
@@ -27,11 +25,7 @@ pub extern "C" fn jirvaldo_core_accept(
 
 // A grant of any number of workers. Refused, the memory stays as it came.
 #[no_mangle]
-pub extern "C" fn jirvaldo_core_grant(
-    memory: &mut [u16; 4352],
-    words: &mut [u64; 18],
-    workers: u64,
-) -> u8
+pub extern "C" fn jirvaldo_core_grant(memory: &mut Memory, words: &mut Words, workers: u64) -> u8
     requires { ⌜ IsJob (job memory words) ⌝ }
     ensures answered { λ r. ⌜ r ≡ call-number (grants workers) (job-before memory words) ⌝ }
     ensures moves { λ _. ⌜ Moves (grants workers) (job-before memory words) (job-after memory words) ⌝ }
@@ -42,11 +36,7 @@ pub extern "C" fn jirvaldo_core_grant(
 
 // A tick with a choice for each granted worker. Refused, the memory stays as it came.
 #[no_mangle]
-pub extern "C" fn jirvaldo_core_tick(
-    memory: &mut [u16; 4352],
-    words: &mut [u64; 18],
-    choices: &[u8],
-) -> u8
+pub extern "C" fn jirvaldo_core_tick(memory: &mut Memory, words: &mut Words, choices: &[u8]) -> u8
     requires { ⌜ IsJob (job memory words) ⌝ }
     ensures answered { λ r. ⌜ r ≡ call-number (ticks (now (choices .entry))) (job-before memory words) ⌝ }
     ensures moves { λ _. ⌜ Moves (ticks (now (choices .entry))) (job-before memory words) (job-after memory words) ⌝ }
@@ -56,7 +46,7 @@ pub extern "C" fn jirvaldo_core_tick(
 }
 
 // The status that the words show.
-fn status_in(words: &[u64; 18]) -> u8
+fn status_in(words: &Words) -> u8
     requires { ⌜ JobWords (now words) ⌝ }
     ensures { λ r. ⌜ ShowsStatus (now (words .entry)) r ⌝ }
 {
@@ -66,7 +56,7 @@ fn status_in(words: &[u64; 18]) -> u8
 
 // The status of the job.
 #[no_mangle]
-pub extern "C" fn jirvaldo_core_status(words: &[u64; 18]) -> u8
+pub extern "C" fn jirvaldo_core_status(words: &Words) -> u8
     requires { ⌜ JobWords (now words) ⌝ }
     ensures { λ r. ⌜ ShowsStatus (now (words .entry)) r ⌝ }
 {
@@ -76,7 +66,7 @@ pub extern "C" fn jirvaldo_core_status(words: &[u64; 18]) -> u8
 // Where the wording of the job's status starts in the sheet, and how many bytes it has. Refused (19), both are 0.
 #[no_mangle]
 pub extern "C" fn jirvaldo_core_wording(
-    words: &[u64; 18],
+    words: &Words,
     sheet: &[u8],
     start: &mut usize,
     size: &mut usize,
@@ -97,7 +87,7 @@ pub extern "C" fn jirvaldo_core_wording(
 
 // The ten numbers of the job's counters line.
 #[no_mangle]
-pub extern "C" fn jirvaldo_core_counters(words: &[u64; 18], refusals: u64, numbers: &mut [u64; 10])
+pub extern "C" fn jirvaldo_core_counters(words: &Words, refusals: u64, numbers: &mut [u64; 10])
     requires { ⌜ JobWords (now words) ⌝ }
     ensures { λ _. ⌜ ShowsCounters (now (words .entry)) refusals (now (numbers .exit)) ⌝ }
 {
@@ -108,7 +98,7 @@ pub extern "C" fn jirvaldo_core_counters(words: &[u64; 18], refusals: u64, numbe
 // came, and the size is 0.
 #[no_mangle]
 pub extern "C" fn jirvaldo_core_line(
-    words: &[u64; 18],
+    words: &Words,
     refusals: u64,
     buffer: &mut [u8],
     size: &mut usize,

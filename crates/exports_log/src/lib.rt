@@ -1,5 +1,7 @@
 // The static library's log run: a job in lent memory, and a log of any bytes. It stands by itself so that the compiler has one caller for
 // each copy of the core, here and in `exports`, and inlines it.
+use memory::Memory;
+use memory::Words;
 ghost use mathlib.Core.Path.{_≡_};
 ghost use Rattle.model.specs.Questions.{answer-number};
 ghost use Rattle.model.specs.Log.{log-answer};
@@ -22,8 +24,8 @@ fn log_number(answer: LogAnswer) -> u8
 // are as the entries before the broken one left them.
 #[no_mangle]
 pub extern "C" fn jirvaldo_core_run_log(
-    memory: &mut [u16; 4352],
-    words: &mut [u64; 18],
+    memory: &mut Memory,
+    words: &mut Words,
     log: &[u8],
     refusals: &mut u64,
 ) -> u8

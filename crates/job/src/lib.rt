@@ -1,5 +1,6 @@
 // The job record, by value. It carries its plan: a call takes a count or choices and nothing else. A thin layer over the in-place
 // core `engine`.
+use memory::Words;
 ghost use mathlib.Core.Path.{_≡_};
 ghost use Rattle.model.specs.Plan.{plan-answer};
 ghost use Rattle.model.specs.Machine.{grants, ticks, call-answer, status};
@@ -33,8 +34,8 @@ pub fn accept(bytes: &[u8]) -> Acceptance
     ensures answered { λ r. ⌜ plan-answer-of (r .answer) ≡ plan-answer (now (bytes .entry)) ⌝ }
     ensures accepts { λ r. ⌜ Accepts (now (bytes .entry)) blank-job (r .job) ⌝ }
 {
-    let mut memory = [0u16; 4352];
-    let mut words = [0u64; 18];
+    let mut memory = [0u16; memory::MEMORY_SIZE];
+    let mut words = [0u64; memory::WORD_COUNT];
     let answer = engine::accept(bytes, &mut memory, &mut words);
     Acceptance {
         answer,
@@ -73,26 +74,26 @@ pub fn tick(job: Job, choices: &[u8]) -> Called
 }
 
 // The status that words show, whatever they are. Words without a task are no job's: they show as fresh and never as finished.
-fn shown_status(words: &[u64; 18]) -> Status
+fn shown_status(words: &Words) -> Status
     ensures { λ r. ⌜ status-number r ≡ shown-status (now (words .entry)) ⌝ }
 {
-    if words[0] == 0 {
+    if words[memory::TASKS] == 0 {
         return Status::Fresh;
     }
-    if words[2] == words[0] {
+    if words[memory::DONE] == words[memory::TASKS] {
         return Status::Finished;
     }
-    if words[14] == 0 {
+    if words[memory::STARTED] == 0 {
         return Status::Fresh;
     }
-    if words[1] == 0 {
+    if words[memory::WORKERS] == 0 {
         return Status::Held;
     }
     Status::Running
 }
 
 // The status of a job, from its words.
-pub fn status_of(words: &[u64; 18]) -> Status
+pub fn status_of(words: &Words) -> Status
     requires { ⌜ JobWords (now words) ⌝ }
     ensures { λ r. ⌜ StatusOf (now (words .entry)) r ⌝ }
 {

@@ -1,6 +1,8 @@
 // The day log, run on a job in place. `specs/Running.antt` says what a run promises.
 use call_questions::CallAnswer;
 use log_reader::Entry;
+use memory::Memory;
+use memory::Words;
 ghost use mathlib.Core.Path.{_≡_};
 ghost use Rattle.model.specs.Log.{refusals-in, log-answer};
 ghost use Rattle.memory.specs.Jobs.{job, job-before, job-after};
@@ -32,12 +34,7 @@ fn refused(answer: CallAnswer) -> u64
 
 // A log of any bytes, run on a job in place, entry after entry. A refused call changes nothing, is counted behind `refusals`, and the next
 // entry follows. A broken entry ends the log with the job and the count as the entries before it left them.
-pub fn run(
-    memory: &mut [u16; 4352],
-    words: &mut [u64; 18],
-    log: &[u8],
-    refusals: &mut u64,
-) -> LogAnswer
+pub fn run(memory: &mut Memory, words: &mut Words, log: &[u8], refusals: &mut u64) -> LogAnswer
     requires { ⌜ IsJob (job memory words) ⌝ }
     ensures answered { λ r. ⌜ log-answer-of r ≡ log-answer (now (log .entry)) ⌝ }
     ensures runs { λ _. ⌜ Runs (now (log .entry)) (job-before memory words) (now (refusals .exit)) (job-after memory words) ⌝ }

@@ -1,4 +1,5 @@
 // A plan's bytes become the plan, or the number of the first question whose answer is no. Nothing is asked of the bytes.
+use memory::Memory;
 use plan_fields::Header;
 use plan_fields::PlanAnswer;
 ghost use mathlib.Core.Path.{_≡_};
@@ -28,16 +29,16 @@ fn one_more(count: u16) -> u16
 }
 
 // One predecessor more for the task s, up to 3. An unused field is noted at task 0, which has none.
-fn note(memory: &mut [u16; 4352], s: usize)
+fn note(memory: &mut Memory, s: usize)
     requires { ⌜ s < 1024 ⌝ }
     ensures { λ _. ⌜ parts-after memory ≡ with-pending (parts-before memory) (noted (parts-before memory .pending) s) ⌝ }
 {
-    let at = 3072 + s;
+    let at = memory::PENDING + s;
     memory[at] = one_more(memory[at]);
 }
 
 // Reads the task t of n: its questions, and where they pass its fields into the memory.
-fn read_task(bytes: &[u8], t: usize, n: usize, memory: &mut [u16; 4352]) -> PlanAnswer
+fn read_task(bytes: &[u8], t: usize, n: usize, memory: &mut Memory) -> PlanAnswer
     requires { ⌜ t < n ⌝ ∗ ⌜ Due (now bytes) n t (parts (now memory)) ⌝ }
     ensures { λ r. ⌜ TaskRead (now (bytes .entry)) t r (parts-after memory) ⌝ }
 {
@@ -45,7 +46,7 @@ fn read_task(bytes: &[u8], t: usize, n: usize, memory: &mut [u16; 4352]) -> Plan
     let f = plan_fields::task_of(bytes[at], bytes[at + 1], bytes[at + 2]);
     let answer = plan_fields::task_answer(f, t, n);
     if plan_fields::passed(answer) {
-        let second_at = 1024 + t;
+        let second_at = memory::SECOND + t;
         memory[t] = f.first as u16;
         memory[second_at] = f.second as u16;
         note(memory, f.first);
@@ -55,7 +56,7 @@ fn read_task(bytes: &[u8], t: usize, n: usize, memory: &mut [u16; 4352]) -> Plan
 }
 
 // Reads all n tasks, in rising order, and stops at the first "no". The memory comes with zeros.
-fn read_tasks(bytes: &[u8], n: usize, memory: &mut [u16; 4352]) -> PlanAnswer
+fn read_tasks(bytes: &[u8], n: usize, memory: &mut Memory) -> PlanAnswer
     requires { ⌜ Due (now bytes) n 0 (parts (now memory)) ⌝ }
     ensures { λ r. ⌜ TasksRead (now (bytes .entry)) n r (parts-after memory) ⌝ }
 {
@@ -72,14 +73,14 @@ fn read_tasks(bytes: &[u8], n: usize, memory: &mut [u16; 4352]) -> PlanAnswer
 }
 
 // Question 9 over the counts: each of the tasks from 1 up has one or two predecessors.
-fn all_preceded(n: usize, memory: &[u16; 4352]) -> bool
+fn all_preceded(n: usize, memory: &Memory) -> bool
     requires { ⌜ (1 ≤ n) × (n ≤ 1024) ⌝ }
     ensures { λ r. ⌜ r ≡ every (one-or-two (parts-before memory .pending)) (drop 1 (below n)) ⌝ }
 {
     let mut all = true;
     let mut t = 1;
     while t < n {
-        let at = 3072 + t;
+        let at = memory::PENDING + t;
         all = all & (memory[at] >= 1) & (memory[at] <= 2);
         t += 1;
     }
@@ -87,7 +88,7 @@ fn all_preceded(n: usize, memory: &[u16; 4352]) -> bool
 }
 
 // Question 10 over the first successors: each task but the last has one.
-fn one_exit(n: usize, memory: &[u16; 4352]) -> bool
+fn one_exit(n: usize, memory: &Memory) -> bool
     requires { ⌜ (1 ≤ n) × (n ≤ 1024) ⌝ }
     ensures { λ r. ⌜ r ≡ every (followed (parts-before memory .first)) (below (n - 1)) ⌝ }
 {
@@ -114,7 +115,7 @@ fn refusal(answer: PlanAnswer) -> Heading
 }
 
 // The tasks and then the graph, after an accepted header, into memory of zeros.
-fn read_graph(bytes: &[u8], h: Header, memory: &mut [u16; 4352]) -> Heading
+fn read_graph(bytes: &[u8], h: Header, memory: &mut Memory) -> Heading
     requires { ⌜ HeaderRead (now bytes) h ⌝ ∗ ⌜ now memory ≡ no-memory ⌝ }
     ensures { λ r. ⌜ HeadingRead (now (bytes .entry)) r (now (memory .exit)) ⌝ }
 {
@@ -132,7 +133,7 @@ fn read_graph(bytes: &[u8], h: Header, memory: &mut [u16; 4352]) -> Heading
     if !followed {
         return refusal(PlanAnswer::LooseEnd);
     }
-    memory[3072] = 0;
+    memory[memory::PENDING] = 0;
     Heading {
         answer: PlanAnswer::Accepted,
         responsiveness: h.responsiveness as u8,
@@ -144,7 +145,7 @@ fn read_graph(bytes: &[u8], h: Header, memory: &mut [u16; 4352]) -> Heading
 
 // The plan of any bytes, its graph into lent memory and zeros into the rest of it, or the number of the first "no". Refused, the memory
 // stays as it came.
-pub fn read_into(bytes: &[u8], memory: &mut [u16; 4352]) -> Heading
+pub fn read_into(bytes: &[u8], memory: &mut Memory) -> Heading
     ensures { λ r. ⌜ RightHeading (now (bytes .entry)) r (now (memory .entry)) (now (memory .exit)) ⌝ }
 {
     if bytes.len() < 5 {
@@ -155,7 +156,7 @@ pub fn read_into(bytes: &[u8], memory: &mut [u16; 4352]) -> Heading
     if !plan_fields::passed(answer) {
         return refusal(answer);
     }
-    let mut graph = [0u16; 4352];
+    let mut graph = [0u16; memory::MEMORY_SIZE];
     let heading = read_graph(bytes, h, &mut graph);
     let answer = heading.answer;
     if !plan_fields::passed(answer) {

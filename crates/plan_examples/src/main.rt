@@ -1,5 +1,6 @@
 // Runs the paper's plan examples, and others that tell the questions apart, and prints what reading found: the answer's number and, for
 // an accepted plan, R, D, L, N and of the first four tasks, or the only one, the two fields and how many predecessors it has.
+use memory::Memory;
 
 fn digit(n: u16) {
     let one = [b'0' + (n % 10) as u8];
@@ -33,8 +34,8 @@ fn show_task(first: u16, second: u16, predecessors: u16) {
     put_after(b" ", predecessors);
 }
 
-fn show_tasks(memory: &[u16; 4352], tasks: u16) {
-    show_task(memory[0], memory[1024], memory[3072]);
+fn show_tasks(memory: &Memory, tasks: u16) {
+    show_task(memory[0], memory[1024], memory[memory::PENDING]);
     if tasks > 3 {
         show_task(memory[1], memory[1025], memory[3073]);
         show_task(memory[2], memory[1026], memory[3074]);

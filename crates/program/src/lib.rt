@@ -1,4 +1,5 @@
 // The program of document 01, from its input's bytes to its output's. Model's specs/Program.antt says what is printed.
+use memory::Words;
 ghost use mathlib.Core.Path.{_≡_};
 ghost use Prim.Native.Nat.{_+_, _≤_};
 ghost use lib.ListN.{length};
@@ -70,7 +71,7 @@ fn put_line(counters: Counters, out: &mut [u8]) -> usize
 }
 
 // The counters line of a job's words, and after a broken log `refused 18`.
-fn ran_output(words: &[u64; 18], refusals: u64, answer: LogAnswer) -> Output
+fn ran_output(words: &Words, refusals: u64, answer: LogAnswer) -> Output
     requires { ⌜ JobWords (now words) ⌝ }
     ensures { λ r. ⌜ PrintsRan (now (words .entry)) refusals answer r ⌝ }
 {
@@ -88,8 +89,8 @@ fn plan_output(plan: &[u8], log: &[u8]) -> Output
     ensures { λ r. ⌜ Prints (output-by (plan-answer (now (plan .entry)))
         (log-output (plan-of (now (plan .entry))) (now (log .entry)))) r ⌝ }
 {
-    let mut memory = [0u16; 4352];
-    let mut words = [0u64; 18];
+    let mut memory = [0u16; memory::MEMORY_SIZE];
+    let mut words = [0u64; memory::WORD_COUNT];
     let answer = engine::accept(plan, &mut memory, &mut words);
     if !plan_fields::passed(answer) {
         return refusal(plan_fields::number(answer));

@@ -1,4 +1,5 @@
 // What a buyer is shown of a job record: the wording of its status, and its counters line.
+use memory::Words;
 ghost use Rattle.model.specs.Machine.{status};
 ghost use Rattle.memory.specs.Jobs.{job-state};
 ghost use Rattle.engine.specs.Reached.{IsJob, JobWords};
@@ -10,25 +11,25 @@ use counters::LineAnswer;
 use memory::Job;
 
 // The ten numbers of a job, off its words, with a log's count of refused calls, 0 without a log.
-pub fn counters_of(words: &[u64; 18], refusals: u64) -> Counters
+pub fn counters_of(words: &Words, refusals: u64) -> Counters
     requires { ⌜ JobWords (now words) ⌝ }
     ensures { λ r. ⌜ CountersOf (now (words .entry)) refusals r ⌝ }
 {
     let status = job::status_of(words);
-    let worked = words[2] as u16;
-    let tasks = words[0] as u16;
-    let desire = words[13] as u8;
-    let allotment = words[1] as u8;
+    let worked = words[memory::DONE] as u16;
+    let tasks = words[memory::TASKS] as u16;
+    let desire = words[memory::DESIRE] as u8;
+    let allotment = words[memory::WORKERS] as u8;
     Counters {
         status,
         worked,
         tasks,
         desire,
         allotment,
-        work: words[3],
-        mug: words[4],
-        steal: words[5],
-        successes: words[6],
+        work: words[memory::WORKS],
+        mug: words[memory::MUGS],
+        steal: words[memory::STEALS],
+        successes: words[memory::SUCCESSES],
         refusals,
     }
 }

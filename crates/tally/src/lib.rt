@@ -2,6 +2,7 @@
 use cycle_counts::MugCycles;
 use cycle_counts::StealCycles;
 use cycle_counts::WorkCycles;
+use memory::Words;
 ghost use mathlib.Core.Path.{_≡_};
 ghost use Rattle.tally.specs.Tallies.{no-tally, add-work, add-mug, Growing, Addable, Settled};
 
@@ -49,14 +50,14 @@ pub fn add_mug(t: Tally) -> Tally
 
 // The words take what so many cycles with this tally add: those that are neither work nor mug cycles are steal cycles. Each mug took one of
 // the muggable deques; where there was none, nothing of the ring is written.
-pub fn settle(words: &mut [u64; 18], cycles: usize, t: Tally)
+pub fn settle(words: &mut Words, cycles: usize, t: Tally)
     requires { ⌜ Addable (now words) cycles t ⌝ }
     ensures { λ _. ⌜ Settled (now (words .entry)) cycles t (now (words .exit)) ⌝ }
 {
     let works = t.works;
     let mugs = t.mugs;
-    words[2] = words[2] + works.number();
-    words[7] = words[7] + cycle_counts::usage(works, mugs);
+    words[memory::DONE] = words[memory::DONE] + works.number();
+    words[memory::USAGE] = words[memory::USAGE] + cycle_counts::usage(works, mugs);
     works.add_to(words);
     let steals = StealCycles::others(cycles as u64, works, mugs);
     steals.add_to(words);
@@ -65,6 +66,6 @@ pub fn settle(words: &mut [u64; 18], cycles: usize, t: Tally)
         return;
     }
     mugs.add_to(words);
-    words[8] = (words[8] + mugged) % 64;
-    words[9] = words[9] - mugged;
+    words[memory::HEAD] = (words[memory::HEAD] + mugged) % 64;
+    words[memory::WAITING] = words[memory::WAITING] - mugged;
 }

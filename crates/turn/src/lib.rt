@@ -1,12 +1,14 @@
 // A worker's cycle and the cycles of a tick, in place in a job's memory and words. A work cycle is `work`'s; here are mug and steal cycles.
+use memory::Memory;
+use memory::Words;
 use tally::Tally;
 ghost use Rattle.turn.specs.Turns.{IdleTurn, Idled, TickTurn, Ticked};
 
 // One cycle of the worker `w`, whose deque is empty. A muggable deque that waits becomes its own, the oldest first. If none waits, it takes
 // the back part of the chosen worker's deque, of two or more tasks: a success. Of any other deque nothing moves.
 pub fn idle_cycle(
-    memory: &mut [u16; 4352],
-    words: &mut [u64; 18],
+    memory: &mut Memory,
+    words: &mut Words,
     w: usize,
     choice: usize,
     t: Tally,
@@ -16,30 +18,30 @@ pub fn idle_cycle(
 {
     let mugs = t.mugs;
     let mugged = mugs.number();
-    if mugged < words[9] {
-        let oldest = 64 + (words[8] + mugged) % 64;
+    if mugged < words[memory::WAITING] {
+        let oldest = 64 + (words[memory::HEAD] + mugged) % 64;
         deque::hand_over(memory, oldest as usize, w);
         return tally::add_mug(t);
     }
-    let size_at = 4096 + (2 * choice + 1);
+    let size_at = memory::ENDS + (2 * choice + 1);
     if memory[size_at] > 1 {
         deque::rob(memory, w, choice);
-        words[6] = words[6] + 1;
+        words[memory::SUCCESSES] = words[memory::SUCCESSES] + 1;
     }
     t
 }
 
 // The cycles of a tick: the workers in number order, one cycle each, with a choice each, until the job is finished. Only a work cycle can
 // finish it. A worker whose deque is not empty works.
-pub fn cycles(memory: &mut [u16; 4352], words: &mut [u64; 18], choices: &[u8])
+pub fn cycles(memory: &mut Memory, words: &mut Words, choices: &[u8])
     requires { ⌜ TickTurn (now memory) (now words) (now choices) ⌝ }
     ensures { λ _. ⌜ Ticked (now (memory .entry)) (now (words .entry)) (now (choices .entry)) (now (memory .exit)) (now (words .exit)) ⌝ }
 {
-    let left = words[0] - words[2];
+    let left = words[memory::TASKS] - words[memory::DONE];
     let mut t = tally::no_tally();
     let mut w = 0;
     while w < choices.len() {
-        let size_at = 4096 + (2 * w + 1);
+        let size_at = memory::ENDS + (2 * w + 1);
         if memory[size_at] > 0 {
             work::work_cycle(memory, w);
             t = tally::add_work(t);
