@@ -1,6 +1,3 @@
--- The proofs, by topic.
-pub mod Decimal
-pub mod Put
-pub mod Digits
+-- Spaced: numbers with a byte after each. Line: the line as a whole.
 pub mod Spaced
 pub mod Line

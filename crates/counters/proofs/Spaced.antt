@@ -8,9 +8,9 @@ use native.Mathlib.Omega.{arith}
 use lib.ListN.{length, getD, drop, length-append, drop-of-length-le}
 use lib.Seq.{drop-cons}
 use Rattle.model.specs.Counters.{decimal, spaced, put-at-start}
-use Rattle.counters.specs.Put.{put}
-use Rattle.counters.proofs.Decimal.{at-most}
-use Rattle.counters.proofs.Put.{length-put, put-append, put-start}
+use Rattle.digits.specs.Put.{put}
+use Rattle.digits.proofs.Decimal.{at-most}
+use Rattle.digits.proofs.Put.{length-put, put-append, put-start}
 
 -- a number that is not the last, and a space
 pub spaced-more : (ns : List ℕ) (i : ℕ) → i + 1 < length ns →

@@ -1,3 +1,2 @@
 -- What the contracts of `counters` cite beside the model's definitions.
 pub mod Line
-pub mod Put

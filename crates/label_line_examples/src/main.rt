@@ -126,7 +126,7 @@ fn buffers() {
 // A number put at a place of ten bytes: the next place, and the bytes.
 fn show_number(at: usize, n: u64) {
     let mut buffer = [46u8; 10];
-    let next = counters::put_decimal(&mut buffer, at, n);
+    let next = digits::put_decimal(&mut buffer, at, n);
     number(next as u64);
     word(b" [");
     word(&buffer);

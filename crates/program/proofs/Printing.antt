@@ -14,9 +14,9 @@ use Rattle.model.specs.Program.{refused-line}
 use Rattle.counters.specs.declared.Counters.{Counters}
 use Rattle.counters.specs.declared.LineAnswer.{LineAnswer}
 use Rattle.counters.specs.Line.{numbers-of, line-length, WritesLine}
-use Rattle.counters.specs.Put.{put, put-if-room, next-if-room}
-use Rattle.counters.proofs.Decimal.{at-most}
-use Rattle.counters.proofs.Put.{length-put, put-append, put-start, ended}
+use Rattle.digits.specs.Put.{put, put-if-room, next-if-room}
+use Rattle.digits.proofs.Decimal.{at-most}
+use Rattle.digits.proofs.Put.{length-put, put-append, put-start, ended}
 use Rattle.counters.proofs.Line.{Wide, line-within}
 use Rattle.program.specs.Output.{Prints, LinePut}
 

@@ -18,8 +18,8 @@ use Rattle.engine.specs.Reached.{IsJob}
 use Rattle.engine.specs.Moves.{Accepts}
 use Rattle.counters.specs.declared.Counters.{Counters}
 use Rattle.counters.specs.Line.{numbers-of}
-use Rattle.counters.specs.Put.{put}
-use Rattle.counters.proofs.Put.{length-put, put-append, put-start}
+use Rattle.digits.specs.Put.{put}
+use Rattle.digits.proofs.Put.{length-put, put-append, put-start}
 use Rattle.report.specs.Shown.{CountersOf}
 use Rattle.log.specs.declared.LogAnswer.{LogAnswer}
 use Rattle.log.specs.declared.LogAnswer.the-variants.{Whole, BrokenEntry}

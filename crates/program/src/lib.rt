@@ -5,7 +5,7 @@ ghost use Prim.Native.Nat.{_+_, _≤_};
 ghost use lib.ListN.{length};
 ghost use Rattle.model.specs.Plan.{plan-of, plan-answer};
 ghost use Rattle.model.specs.Program.{refused-line, log-output, output-by, program};
-ghost use Rattle.counters.specs.Put.{put};
+ghost use Rattle.digits.specs.Put.{put};
 ghost use Rattle.engine.specs.Reached.{JobWords};
 ghost use Rattle.program.specs.Output.{Prints, LinePut, PrintsRan};
 use counters::Counters;
@@ -45,7 +45,7 @@ fn put_refusal(out: &mut [u8], at: usize, number: u8) -> usize
 {
     let word = [114u8, 101, 102, 117, 115, 101, 100, 32];
     put_bytes(out, at, &word);
-    let end = counters::put_decimal(out, at + 8, number as u64);
+    let end = digits::put_decimal(out, at + 8, number as u64);
     out[end] = 10;
     end + 1
 }

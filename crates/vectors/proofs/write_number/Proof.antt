@@ -5,14 +5,14 @@ use lib.ListN.{length, replicate}
 use lib.Seq.{length-take-le}
 use borrow.Author.Needs.{needs}
 use Rattle.model.specs.Counters.{decimal}
-use Rattle.vectors.proofs.Counts.{digits-within}
+use Rattle.digits.proofs.Put.{start-within}
 use Rattle.vectors.proofs.write_number.Statement.{statement}
 use Rattle.vectors.proofs.write_number.Tie as tie
 
 within : (c : tie.After-put-decimal) → c .put-decimal .result ≤ length (c .put-decimal .last .0)
 within c =
     let called = c .put-decimal in
-    digits-within (decimal (c .before .before .args .number)) (replicate 20 0) _ _ (called .ensures .0) (called .ensures .1)
+    start-within (decimal (c .before .before .args .number)) (replicate 20 0) _ _ (called .ensures .0) (called .ensures .1)
 
 array-share-prefix-digits : tie.Need-array-share-prefix-digits
 array-share-prefix-digits c = within (c .before)

@@ -1,0 +1,2 @@
+-- Put: bytes put at a place of a buffer.
+pub mod Put

@@ -1,0 +1,2 @@
+-- What the contracts of `stored_set` cite beside the model's definitions.
+pub mod Stored

@@ -1,2 +1,0 @@
--- What the contracts of `vectors` cite beside the model's definitions.
-pub mod Stored
