@@ -17,7 +17,7 @@ use Rattle.model.specs.Machine.{ready, completed}
 use Rattle.model.specs.Statements.{SoundGraph}
 use Rattle.laws.specs.Invariants.{occurrences}
 use Rattle.laws.specs.Awaited.{still-awaited}
-use Rattle.lists.proofs.Lists.{none-set}
+use Rattle.lists.proofs.Lists.{alike}
 use Rattle.laws.proofs.Deques.{occurrences-append, occurrences-keep}
 
 -- ---- lists
@@ -93,7 +93,7 @@ module _ (graph : Graph) where
 
   pub awaited-at-first : (t : ℕ) → still-awaited graph (replicate (tasks graph) false) t ≡ length (predecessors graph t)
   awaited-at-first t =
-      all-kept (predecessors graph t) (λ p. not (getD (replicate (tasks graph) false) p false)) (λ p. rw (none-set (tasks graph) p) refl)
+      all-kept (predecessors graph t) (λ p. not (getD (replicate (tasks graph) false) p false)) (λ p. rw (alike (tasks graph) p false) refl)
 
   -- a task is before another once, or not at all
   before-times : (t x : ℕ) → t < tasks graph → occurrences t (predecessors graph x) ≡ cond (member x (successors-of graph t)) 1 0

@@ -18,7 +18,7 @@ use Rattle.laws.specs.Invariants.{occurrences, in-deques, busy, waiting-
 use Rattle.laws.specs.Reached.{Unstarted}
 use Rattle.lists.proofs.Tests.{true-is-not-false}
 use Rattle.laws.proofs.Deques.{non-empty, in-deques-append, in-deques-split, in-deques-non-empty, in-deques-empty}
-use Rattle.lists.proofs.Lists.{every-append, kept-passes, none-set}
+use Rattle.lists.proofs.Lists.{every-append, kept-passes, alike}
 use Rattle.laws.proofs.Deques.{busy-append, busy-split, busy-non-empty, busy-empty, busy-at-most}
 use Rattle.laws.proofs.Readiness.{is-waiting, first-ready, others-not-ready, not-waiting-unready, not-waiting-outside}
 
@@ -142,7 +142,7 @@ first-waiting {graph} sound zero =
     (record {
       of-plan = sound .some-task;
       is-ready = first-ready sound (replicate (tasks graph) false);
-      unworked = none-set (tasks graph) 0;
+      unworked = alike (tasks graph) 0 false;
     })
 first-waiting {graph} sound (suc t) = go (ltb (suc t) (tasks graph)) refl ∙ sym (ne-eqb (suc t) 0 (omega arith))
   where
@@ -162,7 +162,7 @@ module _ {graph : Graph} (s : State) (off : s .started ≡ false) (u : Unstarted
         flags = length-replicate (tasks graph) false;
         once = λ t. omega (arith, in-deques-empty t n, ap (λ (b : Bool). cond {A = ℕ} b 1 0) (first-waiting sound t));
         filled = refl;
-        ordered = λ t h. absurd (true-is-not-false h (none-set (tasks graph) t));
+        ordered = λ t h. absurd (true-is-not-false h (alike (tasks graph) t false));
       })
 
   pub first-grant-bounded : (g : ℕ) → 1 ≤ g → Bounded g (grant g s .execution)

@@ -20,7 +20,7 @@ use Rattle.model.specs.History.{History, beginning, history-grant, history-tick
 use Rattle.model.specs.Statements.{SoundPlan, SoundGraph, OnceAndInOrder, FinishedExactly}
 use Rattle.laws.specs.Invariants.{occurrences, Placed}
 use Rattle.lists.proofs.Tests.{one-or-none, is-one}
-use Rattle.lists.proofs.Lists.{none-set, all-set-at, all-set-from, place-of}
+use Rattle.lists.proofs.Lists.{alike, all-set-at, all-set-from, place-of}
 use Rattle.laws.proofs.Deques.{occurrences-append, occurs, found}
 use Rattle.laws.proofs.Deques.{place-once}
 use Rattle.laws.proofs.Readiness.{Waits, is-predecessor, ready-is}
@@ -132,7 +132,7 @@ module _ {plan : Plan} (sound : SoundPlan plan) where
   unfolding beginning fresh tasks-in occurrences
   order-at-first =
       record {
-        flagged = λ t. rw (none-set (tasks (plan .graph)) t) refl;
+        flagged = λ t. rw (alike (tasks (plan .graph)) t false) refl;
         after-all = λ i p l m. absurd (not-suc-le-zero l);
       }
 

@@ -17,7 +17,7 @@ use Rattle.model.specs.Statements.{SoundGraph}
 use Rattle.laws.specs.Invariants.{occurrences, waiting-work}
 use Rattle.lists.proofs.Tests.{true-is-not-false, same-test, not-true-is-false, and-left, and-right}
 use Rattle.lists.proofs.Lists.{is-member, every-at, every-from}
-use Rattle.lists.proofs.Lists.{kept-from, kept-if, below-has, below-is, set-within, none-set}
+use Rattle.lists.proofs.Lists.{kept-from, kept-if, below-has, below-is, set-within, alike}
 
 -- ---- predecessors
 
@@ -114,7 +114,7 @@ module _ {graph : Graph} (sound : SoundGraph graph) where
       go [] e = absurd (not-suc-le-zero (rw e at (sound .preceded t h l)))
       go (p ∷ ps) e =
           let r = is-predecessor graph t p (rw e (List·Memᴰ·head refl)) in
-          not-ready graph (replicate (tasks graph) false) t p (r .0) (r .1) (none-set (tasks graph) p)
+          not-ready graph (replicate (tasks graph) false) t p (r .0) (r .1) (alike (tasks graph) p false)
 
 -- ---- tasks that wait for a worker
 

@@ -139,10 +139,19 @@ unfolding count-set
 count-set-none zero = refl
 count-set-none (suc n) = count-set-none n
 
-pub none-set : (n t : ℕ) → getD (replicate n false) t false ≡ false
-none-set zero t = refl
-none-set (suc n) zero = refl
-none-set (suc n) (suc t) = none-set n t
+-- the same stands at every place, and past the end
+pub alike : {A : Type 0} (n t : ℕ) (a : A) → getD (replicate n a) t a ≡ a
+alike zero t a = refl
+alike (suc n) zero a = refl
+alike (suc n) (suc t) a = alike n t a
+
+-- no element is above a bound after one was stored that is not
+pub stored-most : (xs : List ℕ) (i v most : ℕ) → v ≤ most → ((u : ℕ) → getD xs u 0 ≤ most) → (u : ℕ) → getD (set xs i v) u 0 ≤ most
+stored-most [] i v most fits few u = omega arith
+stored-most (x ∷ xs) zero v most fits few zero = fits
+stored-most (x ∷ xs) zero v most fits few (suc u) = few (suc u)
+stored-most (x ∷ xs) (suc i) v most fits few zero = few zero
+stored-most (x ∷ xs) (suc i) v most fits few (suc u) = stored-most xs i v most fits (λ w. few (suc w)) u
 
 pub all-set-at : (flags : List Bool) → all-set flags ≡ true → (t : ℕ) → t < length flags → getD flags t false ≡ true
 unfolding all-set

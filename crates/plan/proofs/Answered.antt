@@ -24,7 +24,7 @@ use Rattle.plan.specs.Promise.{no-heading, Holds, RightHeading}
 use Rattle.lists.proofs.Questions.{two-accepted, first-refused, second-refused}
 use Rattle.plan_fields.proofs.Answers.{passes-is, passes-not, stops}
 use Rattle.plan.proofs.Facts.{header-facts}
-use Rattle.plan.proofs.Sound.{answer-parts, graph-facts}
+use Rattle.plan.proofs.Sound.{answer-parts}
 use Rattle.plan.proofs.Steps.{header-bytes}
 use Rattle.plan.proofs.Whole.{question-9, question-10, nothing-held, memory-holds}
 
@@ -170,12 +170,11 @@ module _ (bytes : List ℕ) (h : Header) (read : HeaderRead bytes h) where
       pub accepted-whole : nine-asked ≡ true → ten-asked ≡ true → (r : Heading) → r .answer ≡ Accepted →
           r .responsiveness ≡ h .responsiveness → r .utilization ≡ h .utilization →
           r .«quantum_length» ≡ h .quantum → r .tasks ≡ h .tasks → HeadingRead bytes r (set memory 3072 0)
-      unfolding graph-questions
       accepted-whole nine ten r e e-r e-u e-q e-n =
           let passed =
           two-accepted 9 10 (sym (question-9 bytes p all-held) ∙ rw tasks-number at nine)
           (sym (question-10 bytes p all-held) ∙ rw tasks-number at ten) in
           right-acceptance bytes r (set memory 3072 0) (graph-left ∙ passed) e
           (memory-holds bytes p all-held r (set memory 3072 0) (store-pending memory 0 0 (omega arith))
-          (graph-facts (plan-of bytes .graph) passed) (e-r ∙ read .fields .responsiveness-read) (e-u ∙ read .fields .utilization-read)
+          (e-r ∙ read .fields .responsiveness-read) (e-u ∙ read .fields .utilization-read)
           (e-q ∙ read .fields .quantum-read) (e-n ∙ tasks-number))

@@ -2,7 +2,7 @@
 use mathlib.Core.Path.{_≡_, refl, sym, _∙_, ap}
 use mathlib.Core.Bool.{true, false}
 use mathlib.Core.List.{List, flatMap, List·Memᴰ·head, List·Memᴰ·tail}
-use Prim.Native.Nat.{ℕ, zero, suc, _+_, _*_, _≤_, _<_}
+use Prim.Native.Nat.{ℕ, zero, suc, _+_, _*_, _^_, _≤_, _<_}
 use native.Mathlib.Nat.{add-zero}
 use native.Mathlib.Numerals.{add-one}
 use native.Mathlib.Omega.{arith}
@@ -13,7 +13,7 @@ use Rattle.model.specs.Plan.{number, header, task-bits, task-count, count-field
 use Rattle.model.specs.Plan.{task-questions}
 use Rattle.memory.specs.Parts.{Parts, with-pending}
 use Rattle.plan_fields.specs.Fields.{five-bytes, three-bytes, pair-questions, TaskOf}
-use Rattle.plan.specs.Contracts.{saturated, noted, counted, Held, TaskRead}
+use Rattle.plan.specs.Contracts.{noted, counted, Held, TaskRead}
 use Rattle.plan.specs.Contracts.{TasksRead}
 use Rattle.plan_fields.specs.declared.TaskFields.{TaskFields}
 use Rattle.plan_fields.specs.declared.PlanAnswer.{PlanAnswer}
@@ -23,7 +23,7 @@ use Rattle.lists.proofs.Ranges.{keep-below}
 use Rattle.lists.proofs.Questions.{and-then, first-no-below, refused-at}
 use Rattle.plan_fields.proofs.Answers.{passes-is, passes-not}
 use Rattle.plan.proofs.Facts.{FieldFacts, TargetFacts, TaskFacts, task-facts}
-use Rattle.plan.proofs.Stores.{with-fields, stored-held, stored-ends, noted-ends, note-successors}
+use Rattle.plan.proofs.Stores.{with-fields, stored-held, stored-ends, noted-ends, noted-most, note-successors}
 
 -- ---- bytes and fields
 
@@ -85,7 +85,8 @@ module _ (bytes : List ℕ) (t : ℕ) (passed : first-no (task-questions bytes t
         counts-held = λ u m.
             note-successors (counted bytes t) (p .pending) (task-count bytes) t (count-field bytes t) _ _
             (h .counts-ends .places) (omega arith) (facts .fields) (facts .targets) (h .counts-held) u m
-            ∙ ap saturated (sym (keep-below (λ q. member u (successor-fields bytes q)) t));
+            ∙ sym (keep-below (λ q. member u (successor-fields bytes q)) t);
+        counts-small = λ u. omega (arith, twice-noted u);
         first-ends = stored-ends (first-field bytes) (p .first) t (h .first-ends) small;
         second-ends = stored-ends (second-field bytes) (p .second) t (h .second-ends) small;
         counts-ends =
@@ -97,6 +98,20 @@ module _ (bytes : List ℕ) (t : ℕ) (passed : first-no (task-questions bytes t
     where
       small : t < 1024
       small = omega arith
+
+      twice-noted : (u : ℕ) → getD (noted (noted (p .pending) (first-field bytes t)) (second-field bytes t)) u 0 ≤ 2 * t + 1 + 1
+      twice-noted =
+          noted-most _ (second-field bytes t) (2 * t + 1) (noted-most (p .pending) (first-field bytes t) (2 * t) (h .counts-small))
+
+-- the counts have room for the two fields that are noted
+module _ {bytes : List ℕ} {t : ℕ} {p p-fields : Parts} (h : Held bytes t p) (small : t < 1024) (first second : ℕ)
+    (stored : p-fields ≡ with-fields p t first second) where
+  pub room : (s : ℕ) → getD (p-fields .pending) s 0 + 1 < 2 ^ 16
+  room s = rw stored (omega (arith, h .counts-small s))
+
+  pub room-after : {p-1 : Parts} (s : ℕ) → p-1 ≡ with-pending p-fields (noted (p-fields .pending) s) →
+      (u : ℕ) → getD (p-1 .pending) u 0 + 1 < 2 ^ 16
+  room-after s e u = rw (e, stored) (omega (arith, noted-most (p .pending) s (2 * t) (h .counts-small) u))
 
 -- ---- one task, as the code reads it
 

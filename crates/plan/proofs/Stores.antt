@@ -7,17 +7,17 @@ use Prim.Native.Nat.{ℕ, zero, suc, _+_, _≤_, _<_}
 use native.Mathlib.Nat.{add-zero, zero-add, eq-or-lt-of-le, le-of-suc-le-suc}
 use native.Mathlib.Numerals.{add-one}
 use native.Mathlib.Omega.{arith}
-use borrow.Author.Tests.{le-ltb, eqb-true, eqb-false, ltb-true}
-use lib.Dec.{leb, ltb, eqb}
+use borrow.Author.Tests.{eqb-true, eqb-false}
+use lib.Dec.{leb, eqb}
 use lib.ListN.{length, getD, set, drop, length-set}
-use lib.Seq.{getD-set-same, getD-set-other, set-getD}
-use mir.Val.{boolByte}
+use lib.Seq.{getD-set-same, getD-set-other}
 use Rattle.model.specs.Tests.{below, every, member}
 use Rattle.model.specs.Plan.{used-fields}
 use Rattle.memory.specs.Parts.{Parts, region, parts, with-pending}
 use Rattle.memory.proofs.Regions.{store-inside, store-above, store-below, store-pending, first-at, pending-at}
 use Rattle.plan.specs.Headings.{Ends}
-use Rattle.plan.specs.Contracts.{saturated, noted, one-or-two, followed}
+use Rattle.plan.specs.Contracts.{noted, one-or-two, followed}
+use Rattle.lists.proofs.Lists.{stored-most}
 use Rattle.lists.proofs.Ranges.{every-below, every-from-one}
 use Rattle.plan.proofs.Facts.{FieldFacts, TargetFacts}
 
@@ -68,69 +68,28 @@ module _ (f : ℕ → ℕ) (xs : List ℕ) (t : ℕ) (ends : Ends t xs) (small :
 
 -- ---- a predecessor noted
 
-next : ℕ → ℕ
-next n = cond (ltb n 3) (n + 1) n
-
-saturated-next : (n : ℕ) → next (saturated n) ≡ saturated (n + 1)
-unfolding next saturated
-saturated-next zero = refl
-saturated-next (suc zero) = refl
-saturated-next (suc (suc zero)) = refl
-saturated-next (suc (suc (suc n))) =
-    rw (le-ltb (suc (suc (suc n))) 3 (omega arith), le-ltb (suc (suc (suc n)) + 1) 3 (omega arith))
-
--- 1 or 0 is added
-pub added : (b : Bool) (count : ℕ) → count + boolByte b ≡ cond b (count + 1) count
-added true count = refl
-added false count = add-zero count
-
-pub added-fits : (count most : ℕ) → count < 65536 → most < 65536 → count + boolByte (ltb count most) < 65536
-added-fits count most l few = by (ltb count most) refl
-  where
-    by : (b : Bool) → ltb count most ≡ b → count + boolByte b < 65536
-    by true e = omega (arith, ltb-true count most e)
-    by false e = omega arith
-
 module _ (counts : List ℕ) (s : ℕ) where
-  noted-same : s < length counts → getD (noted counts s) s 0 ≡ next (getD counts s 0)
-  unfolding noted next
-  noted-same l = by (ltb (getD counts s 0) 3)
-    where
-      by : (b : Bool) → getD (cond b (set counts s (getD counts s 0 + 1)) counts) s 0 ≡ cond b (getD counts s 0 + 1) (getD counts s 0)
-      by true = getD-set-same counts s _ 0 l
-      by false = refl
+  noted-same : s < length counts → getD (noted counts s) s 0 ≡ getD counts s 0 + 1
+  unfolding noted
+  noted-same l = getD-set-same counts s _ 0 l
 
   noted-other : (u : ℕ) → (u ≡ s → ⊥) → getD (noted counts s) u 0 ≡ getD counts u 0
   unfolding noted
-  noted-other u ne = by (ltb (getD counts s 0) 3)
-    where
-      by : (b : Bool) → getD (cond b (set counts s (getD counts s 0 + 1)) counts) u 0 ≡ getD counts u 0
-      by true = getD-set-other counts s u _ 0 ne
-      by false = refl
+  noted-other u ne = getD-set-other counts s u _ 0 ne
 
   pub length-noted : length (noted counts s) ≡ length counts
   unfolding noted
-  length-noted = by (ltb (getD counts s 0) 3)
-    where
-      by : (b : Bool) → length (cond b (set counts s (getD counts s 0 + 1)) counts) ≡ length counts
-      by true = length-set counts s _
-      by false = refl
+  length-noted = length-set counts s _
 
--- the count is written where nothing is noted too
-pub noted-stored : (memory : List ℕ) (s count : ℕ) → s < 1024 →
-    count ≡ cond (ltb (getD memory (3072 + s) 0) 3) (getD memory (3072 + s) 0 + 1) (getD memory (3072 + s) 0) →
-    parts (set memory (3072 + s) count) ≡ with-pending (parts memory) (noted (parts memory .pending) s)
+  -- no count is more than one higher
+  pub noted-most : (most : ℕ) → ((u : ℕ) → getD counts u 0 ≤ most) → (u : ℕ) → getD (noted counts s) u 0 ≤ most + 1
+  unfolding noted
+  noted-most most few = stored-most counts s (getD counts s 0 + 1) (most + 1) (omega (arith, few s)) (λ v. omega (arith, few v))
+
+pub noted-stored : (memory : List ℕ) (s : ℕ) → s < 1024 →
+    parts (set memory (3072 + s) (getD memory (3072 + s) 0 + 1)) ≡ with-pending (parts memory) (noted (parts memory .pending) s)
 unfolding noted
-noted-stored memory s count inside e =
-    store-pending memory s count inside
-    ∙ ap (with-pending (parts memory)) (rw (e, pending-at memory s inside) (by (ltb (getD counts s 0) 3)))
-  where
-    counts : List ℕ
-    counts = parts memory .pending
-
-    by : (b : Bool) → set counts s (cond b (getD counts s 0 + 1) (getD counts s 0)) ≡ cond b (set counts s (getD counts s 0 + 1)) counts
-    by true = refl
-    by false = set-getD counts s 0
+noted-stored memory s inside = store-pending memory s _ inside ∙ rw (pending-at memory s inside)
 
 pub noted-ends : (n : ℕ) (counts : List ℕ) (s : ℕ) → s < n → Ends n counts → Ends n (noted counts s)
 noted-ends n counts s l ends =
@@ -140,15 +99,13 @@ noted-ends n counts s l ends =
     }
 
 -- one successor s more, and what is said of every task from 1
-note-one : (old : ℕ → ℕ) (counts : List ℕ) (s : ℕ) → 0 < s → s < length counts → ((u : ℕ) → 1 ≤ u → getD counts u 0 ≡ saturated (old u)) →
-    (u : ℕ) → 1 ≤ u → getD (noted counts s) u 0 ≡ saturated (old u + cond (eqb u s) 1 0)
+note-one : (old : ℕ → ℕ) (counts : List ℕ) (s : ℕ) → 0 < s → s < length counts → ((u : ℕ) → 1 ≤ u → getD counts u 0 ≡ old u) →
+    (u : ℕ) → 1 ≤ u → getD (noted counts s) u 0 ≡ old u + cond (eqb u s) 1 0
 note-one old counts s p l h u m = by (eqb u s) refl
   where
-    by : (b : Bool) → eqb u s ≡ b → getD (noted counts s) u 0 ≡ saturated (old u + cond b 1 0)
-    by true e =
-        ap (λ v. getD (noted counts s) v 0) (eqb-true u s e)
-        ∙ (noted-same counts s l ∙ (ap next (h s p) ∙ (saturated-next (old s) ∙ ap (λ v. saturated (old v + 1)) (sym (eqb-true u s e)))))
-    by false e = noted-other counts s u (eqb-false u s e) ∙ (h u m ∙ ap saturated (sym (add-zero (old u))))
+    by : (b : Bool) → eqb u s ≡ b → getD (noted counts s) u 0 ≡ old u + cond b 1 0
+    by true e = rw (eqb-true u s e) (noted-same counts s l ∙ ap (λ n. n + 1) (h s p))
+    by false e = noted-other counts s u (eqb-false u s e) ∙ (h u m ∙ sym (add-zero (old u)))
 
 -- an unused field is noted at task 0 alone
 noted-unused : (counts : List ℕ) (s u : ℕ) → s ≡ 0 → 1 ≤ u → getD (noted counts s) u 0 ≡ getD counts u 0
@@ -172,17 +129,17 @@ either o u a b ne = by (eqb u a) (eqb u b) refl refl
 -- the successors of a task that 7 and 8 pass: each count is one more where the task is among them
 pub note-successors : (old : ℕ → ℕ) (counts : List ℕ) (n t count first second : ℕ) → length counts ≡ 1024 → n ≤ 1024 →
     FieldFacts count first second → TargetFacts n t (used-fields count first second) →
-    ((u : ℕ) → 1 ≤ u → getD counts u 0 ≡ saturated (old u)) → (u : ℕ) → 1 ≤ u →
-    getD (noted (noted counts first) second) u 0 ≡ saturated (old u + cond (member u (used-fields count first second)) 1 0)
+    ((u : ℕ) → 1 ≤ u → getD counts u 0 ≡ old u) → (u : ℕ) → 1 ≤ u →
+    getD (noted (noted counts first) second) u 0 ≡ old u + cond (member u (used-fields count first second)) 1 0
 unfolding member
 note-successors old counts n t zero first second size small f g h u m =
     noted-unused (noted counts first) second u (f .second-unused (omega arith)) m
-    ∙ (noted-unused counts first u (f .first-unused refl) m ∙ (h u m ∙ ap saturated (sym (add-zero (old u)))))
+    ∙ (noted-unused counts first u (f .first-unused refl) m ∙ (h u m ∙ sym (add-zero (old u))))
 note-successors old counts n t (suc zero) first second size small f g h u m =
     let up : t < first = g .upward first (List·Memᴰ·head refl) in
     let low : first < n = g .inside first (List·Memᴰ·head refl) in
     noted-unused (noted counts first) second u (f .second-unused (omega arith)) m
-    ∙ (note-one old counts first (omega arith) (omega arith) h u m ∙ ap (λ b. saturated (old u + cond b 1 0)) (sym (as-test (eqb u first))))
+    ∙ (note-one old counts first (omega arith) (omega arith) h u m ∙ ap (λ b. old u + cond b 1 0) (sym (as-test (eqb u first))))
 note-successors old counts n t (suc (suc more)) first second size small f g h u m =
     let up : t < first = g .upward first (List·Memᴰ·head refl) in
     let low : first < n = g .inside first (List·Memᴰ·head refl) in
@@ -190,7 +147,7 @@ note-successors old counts n t (suc (suc more)) first second size small f g h u 
     let low-2 : second < n = g .inside second (List·Memᴰ·tail (List·Memᴰ·head refl)) in
     note-one (λ v. old v + cond (eqb v first) 1 0) (noted counts first) second (omega arith) (omega (arith, length-noted counts first))
     (note-one old counts first (omega arith) (omega arith) h) u m
-    ∙ ap saturated (either (old u) u first second (g .apart first second refl))
+    ∙ either (old u) u first second (g .apart first second refl)
 
 -- ---- the tests of questions 9 and 10, of one task more
 

@@ -6,8 +6,8 @@ use mathlib.Core.List.{List, [], _∷_, map, flatMap, List·Memᴰ·head, List·
 use Prim.Native.Nat.{ℕ, zero, suc, _+_, _-_, _≤_, _<_}
 use native.Mathlib.Nat.{eq-zero-or-pos}
 use native.Mathlib.Omega.{arith}
-use borrow.Author.Tests.{le-leb, lt-leb, lt-ltb, le-ltb, eq-eqb, ne-eqb}
-use lib.Dec.{leb, eqb}
+use borrow.Author.Tests.{eq-eqb, ne-eqb}
+use lib.Dec.{eqb}
 use lib.ListN.{length, getD, set, drop, replicate, length-set, length-replicate}
 use lib.Seq.{getD-set-same, getD-set-other, ext-getD}
 use Rattle.model.specs.Tests.{below, every, keep, is-empty, member}
@@ -15,39 +15,18 @@ use Rattle.model.specs.Questions.{first-no}
 use Rattle.model.specs.Plan.{tasks, successors-of, predecessors, responsiveness-field, utilization-field, quantum-length-field, task-count}
 use Rattle.model.specs.Plan.{count-field, first-field, second-field, used-fields, successor-fields, plan-of, task-questions, all-preceded}
 use Rattle.model.specs.Plan.{one-exit}
-use Rattle.lists.proofs.Lists.{below-is, is-member}
+use Rattle.lists.proofs.Lists.{alike, below-is, is-member}
 use Rattle.memory.specs.Parts.{Parts, region, parts, with-pending}
 use Rattle.memory.specs.Graphs.{shown, successors-at, successors-view}
 use Rattle.memory.proofs.Regions.{region-at, region-length}
 use Rattle.lists.proofs.Tables.{table-same}
 use Rattle.plan.specs.declared.Heading.{Heading}
 use Rattle.plan.specs.Headings.{plan-view, Ends}
-use Rattle.plan.specs.Contracts.{saturated, counted, Held, one-or-two, followed, no-memory}
+use Rattle.plan.specs.Contracts.{counted, Held, one-or-two, followed, no-memory}
 use Rattle.plan.specs.Promise.{Holds}
 use Rattle.lists.proofs.Ranges.{from-one-mem, every-cong, every-below, keep-cong, keep-some}
 use Rattle.lists.proofs.Questions.{accepted-at}
 use Rattle.plan.proofs.Facts.{tasks-of, successors-given, FieldFacts, TargetFacts, TaskFacts, task-facts}
-use Rattle.plan.proofs.Sound.{GraphFacts}
-
--- ---- counts that stop at 3
-
-saturated-some : (n : ℕ) → leb 1 (saturated n) ≡ leb 1 n
-unfolding saturated
-saturated-some zero = refl
-saturated-some (suc zero) = refl
-saturated-some (suc (suc zero)) = refl
-saturated-some (suc (suc (suc n))) = rw (le-ltb (suc (suc (suc n))) 3 (omega arith), le-leb 1 (suc (suc (suc n))) (omega arith))
-
-saturated-two : (n : ℕ) → leb (saturated n) 2 ≡ leb n 2
-unfolding saturated
-saturated-two zero = refl
-saturated-two (suc zero) = refl
-saturated-two (suc (suc zero)) = refl
-saturated-two (suc (suc (suc n))) = rw (le-ltb (suc (suc (suc n))) 3 (omega arith), lt-leb (suc (suc (suc n))) 2 (omega arith))
-
-saturated-small : (n : ℕ) → n ≤ 2 → saturated n ≡ n
-unfolding saturated
-saturated-small n l = rw (lt-ltb n 3 (omega arith))
 
 -- ---- the successors that two fields show
 
@@ -99,15 +78,12 @@ module _ (bytes : List ℕ) (p : Parts) (held : Held bytes (task-count bytes) p)
           omega (arith, facts .targets .upward 0 (is-member 0 (successor-fields bytes q) (found .2)))
 
   -- with 0 at task 0, whose count has the unused fields
-  pub counts-are : GraphFacts (plan-of bytes .graph) → (t : ℕ) → t < task-count bytes →
-      getD (set (p .pending) 0 0) t 0 ≡ length (predecessors (plan-of bytes .graph) t)
-  counts-are graph zero l =
+  pub counts-are : (t : ℕ) → getD (set (p .pending) 0 0) t 0 ≡ length (predecessors (plan-of bytes .graph) t)
+  counts-are zero =
       getD-set-same (p .pending) 0 0 0 (omega (arith, held .counts-ends .places)) ∙ sym (predecessors-counted bytes 0 ∙ first-task)
-  counts-are graph (suc t) l =
+  counts-are (suc t) =
       getD-set-other (p .pending) 0 (suc t) 0 0 (λ e. omega arith)
-      ∙ (held .counts-held (suc t) (omega arith)
-      ∙ (ap saturated (sym (predecessors-counted bytes (suc t)))
-      ∙ saturated-small _ (graph .preceded-twice (suc t) (omega arith) (rw (tasks-of bytes) l))))
+      ∙ (held .counts-held (suc t) (omega arith) ∙ sym (predecessors-counted bytes (suc t)))
 
   counts-end : Ends (task-count bytes) (set (p .pending) 0 0)
   counts-end =
@@ -124,7 +100,7 @@ module _ (bytes : List ℕ) (p : Parts) (held : Held bytes (task-count bytes) p)
       rw (tasks-of bytes)
       (every-cong _ _ (drop 1 (below (task-count bytes)))
       (λ t m. let above = from-one-mem t (task-count bytes) m .0 in
-      rw (held .counts-held t above, predecessors-counted bytes t, saturated-some, saturated-two)))
+      rw (held .counts-held t above, predecessors-counted bytes t)))
 
   successors-shown : (t : ℕ) → t < task-count bytes → successors-at (p .first) (p .second) t ≡ successor-fields bytes t
   unfolding successors-at successor-fields
@@ -180,13 +156,13 @@ module _ (bytes : List ℕ) (p : Parts) (held : Held bytes (task-count bytes) p)
   -- ---- the memory
 
   pub memory-holds : (r : Heading) (memory : List ℕ) → parts memory ≡ with-pending p (set (p .pending) 0 0) →
-      GraphFacts (plan-of bytes .graph) → r .responsiveness ≡ responsiveness-field bytes → r .utilization ≡ utilization-field bytes →
+      r .responsiveness ≡ responsiveness-field bytes → r .utilization ≡ utilization-field bytes →
       r .«quantum_length» ≡ quantum-length-field bytes → r .tasks ≡ task-count bytes → Holds bytes r memory
   unfolding plan-view plan-of
-  memory-holds r memory e graph e-r e-u e-q e-n =
+  memory-holds r memory e e-r e-u e-q e-n =
       record {
         shows = rw (e, e-r, e-u, e-q, e-n, successors-are);
-        preceded = λ t l. rw e (counts-are graph t (omega arith));
+        preceded = λ t l. rw e (counts-are t);
         first-ends = rw (e, e-n) (held .first-ends);
         second-ends = rw (e, e-n) (held .second-ends);
         pending-ends = rw (e, e-n) counts-end;
@@ -196,33 +172,32 @@ module _ (bytes : List ℕ) (p : Parts) (held : Held bytes (task-count bytes) p)
 
 -- ---- before the first task: memory of zeros
 
-getD-zeros : (n t : ℕ) → getD {A = ℕ} (replicate n 0) t 0 ≡ 0
-getD-zeros zero t = refl
-getD-zeros (suc n) zero = refl
-getD-zeros (suc n) (suc t) = getD-zeros n t
-
 region-zeros : (offset size n : ℕ) → offset + size ≤ n → region offset size (replicate n 0) ≡ replicate size 0
 region-zeros offset size n fits =
     let sized : length (region offset size (replicate n 0)) ≡ size =
     region-length offset size (replicate n 0) (rw (length-replicate {A = ℕ} n 0) fits) in
     ext-getD 0 (region offset size (replicate n 0)) (replicate size 0) (sized ∙ sym (length-replicate size 0))
-    (λ i l. region-at offset size (replicate n 0) i 0 (rw sized at l) ∙ getD-zeros n (offset + i) ∙ sym (getD-zeros size i))
+    (λ i l. region-at offset size (replicate n 0) i 0 (rw sized at l) ∙ alike n (offset + i) 0 ∙ sym (alike size i 0))
 
 zeros-end : (n : ℕ) (xs : List ℕ) → xs ≡ replicate 1024 0 → Ends n xs
 zeros-end n xs e =
-    record { places = ap length e ∙ length-replicate {A = ℕ} 1024 0; nothing-past = λ t _. ap (λ l. getD l t 0) e ∙ getD-zeros 1024 t }
+    record { places = ap length e ∙ length-replicate {A = ℕ} 1024 0; nothing-past = λ t _. ap (λ l. getD l t 0) e ∙ alike 1024 t 0 }
 
 pub nothing-held : (bytes : List ℕ) → Held bytes 0 (parts no-memory)
-unfolding first-no flatMap below counted keep saturated parts no-memory
+unfolding first-no flatMap below counted keep parts no-memory
 nothing-held bytes =
     record {
       accepted-so-far = refl;
       first-held = λ t l. absurd (omega arith);
       second-held = λ t l. absurd (omega arith);
-      counts-held = λ t _. ap (λ l. getD l t 0) (region-zeros 3072 1024 4352 (omega arith)) ∙ getD-zeros 1024 t;
+      counts-held = λ t _. no-count t;
+      counts-small = λ t. omega (arith, no-count t);
       first-ends = zeros-end 0 _ (region-zeros 0 1024 4352 (omega arith));
       second-ends = zeros-end 0 _ (region-zeros 1024 1024 4352 (omega arith));
       counts-ends = zeros-end (task-count bytes) _ (region-zeros 3072 1024 4352 (omega arith));
       no-links = region-zeros 2048 1024 4352 (omega arith);
       no-deques = region-zeros 4096 256 4352 (omega arith);
     }
+  where
+    no-count : (t : ℕ) → getD (region 3072 1024 no-memory) t 0 ≡ 0
+    no-count t = ap (λ l. getD l t 0) (region-zeros 3072 1024 4352 (omega arith)) ∙ alike 1024 t 0

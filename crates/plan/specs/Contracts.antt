@@ -1,9 +1,9 @@
 -- What the inner functions ask and promise, over plain lists and numbers.
 use mathlib.Core.Path.{_≡_}
-use mathlib.Core.Bool.{Bool, cond, not, _&&_}
+use mathlib.Core.Bool.{Bool, not, _&&_}
 use mathlib.Core.List.{List, flatMap}
 use Prim.Native.Nat.{ℕ, _+_, _*_, _≤_, _<_}
-use lib.Dec.{leb, ltb, eqb}
+use lib.Dec.{leb, eqb}
 use lib.ListN.{length, getD, set, replicate}
 use Rattle.model.specs.Tests.{below, keep, member}
 use Rattle.model.specs.Questions.{accepted, refused, first-no}
@@ -25,13 +25,9 @@ pub record HeaderRead (bytes : List ℕ) (h : Header) : Type 0 where
 
 -- ---- the memory while the tasks are read
 
--- a count that stops at 3, which is "three or more"
-unfoldable pub saturated : ℕ → ℕ
-saturated n = cond (ltb n 3) n 3
-
--- one more predecessor of the task s, where the count is below 3
+-- one more predecessor of the task s
 unfoldable pub noted : List ℕ → ℕ → List ℕ
-noted counts s = cond (ltb (getD counts s 0) 3) (set counts s (getD counts s 0 + 1)) counts
+noted counts s = set counts s (getD counts s 0 + 1)
 
 -- how many of the tasks below i have t as a successor
 unfoldable pub counted : List ℕ → ℕ → ℕ → ℕ
@@ -43,7 +39,8 @@ pub record Held (bytes : List ℕ) (i : ℕ) (p : Parts) : Type 0 where
   pub accepted-so-far : first-no (flatMap (task-questions bytes) (below i)) ≡ accepted
   pub first-held : (t : ℕ) → t < i → getD (p .first) t 0 ≡ first-field bytes t
   pub second-held : (t : ℕ) → t < i → getD (p .second) t 0 ≡ second-field bytes t
-  pub counts-held : (t : ℕ) → 1 ≤ t → getD (p .pending) t 0 ≡ saturated (counted bytes i t)
+  pub counts-held : (t : ℕ) → 1 ≤ t → getD (p .pending) t 0 ≡ counted bytes i t
+  pub counts-small : (t : ℕ) → getD (p .pending) t 0 ≤ 2 * i
   pub first-ends : Ends i (p .first)
   pub second-ends : Ends i (p .second)
   pub counts-ends : Ends (task-count bytes) (p .pending)

@@ -3,10 +3,8 @@ use memory::Memory;
 use plan_fields::Header;
 use plan_fields::PlanAnswer;
 ghost use mathlib.Core.Path.{_≡_};
-ghost use mathlib.Core.Bool.{cond};
-ghost use Prim.Native.Nat.{_+_, _-_, _≤_, _<_};
-ghost use lib.Dec.{ltb};
-ghost use lib.ListN.{drop};
+ghost use Prim.Native.Nat.{_+_, _-_, _^_, _≤_, _<_};
+ghost use lib.ListN.{getD, drop};
 ghost use Rattle.model.specs.Tests.{below, every};
 ghost use Rattle.memory.specs.Parts.{parts, parts-before, parts-after, with-pending};
 ghost use Rattle.plan.specs.Contracts.{noted, Due, TaskRead, TasksRead, one-or-two, followed, HeaderRead, HeadingRead, no-memory};
@@ -21,20 +19,13 @@ pub struct Heading {
     pub tasks: u16,
 }
 
-// One more, up to 3; with no branch.
-fn one_more(count: u16) -> u16
-    ensures { λ r. ⌜ r ≡ cond (ltb count 3) (count + 1) count ⌝ }
-{
-    count + (count < 3) as u16
-}
-
-// One predecessor more for the task s, up to 3. An unused field is noted at task 0, which has none.
+// One predecessor more for the task s. An unused field is noted at task 0, which has none.
 fn note(memory: &mut Memory, s: usize)
-    requires { ⌜ s < 1024 ⌝ }
+    requires { ⌜ s < 1024 ⌝ ∗ ⌜ getD (parts (now memory) .pending) s 0 + 1 < 2 ^ 16 ⌝ }
     ensures { λ _. ⌜ parts-after memory ≡ with-pending (parts-before memory) (noted (parts-before memory .pending) s) ⌝ }
 {
     let at = memory::PENDING + s;
-    memory[at] = one_more(memory[at]);
+    memory[at] = memory[at] + 1;
 }
 
 // Reads the task t of n: its questions, and where they pass its fields into the memory.

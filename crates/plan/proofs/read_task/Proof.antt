@@ -5,7 +5,7 @@ use Prim.Native.Nat.{_<_}
 use native.Mathlib.Omega.{arith}
 use mathlib.Core.Bool.{true}
 use Rattle.plan_fields.specs.Answers.{answer-of, passes}
-use Rattle.plan.proofs.Steps.{read-refused, read-passed, first-small, second-small}
+use Rattle.plan.proofs.Steps.{room, room-after, read-refused, read-passed, first-small, second-small}
 use Rattle.plan.proofs.Stores.{fields-stored}
 use Rattle.plan.proofs.read_task.Statement.{statement}
 use Rattle.plan.proofs.read_task.Tie as tie
@@ -29,14 +29,21 @@ small p passed =
 
 note-requires : tie.Need-note-requires
 note-requires c κs =
-    let p = c .before .before .before .before in
-    omega (arith, small p (sym (p .passed .ensures) ∙ c .before .before .before .if1 .taken))
+    let accepted = c .before .before .before in
+    let p = accepted .before in
+    let s = start p in (
+      omega (arith, small p (sym (p .passed .ensures) ∙ accepted .if1 .taken)),
+      room (s .pre .1 .held) (omega arith) _ _ (fields-stored _ _ _ _ (omega arith)) _,
+    )
 
 note-requires-2 : tie.Need-note-requires-2
 note-requires-2 c κs =
     let accepted = c .before .before .before .before .before in
     let p = accepted .before in
-    omega (arith, small p (sym (p .passed .ensures) ∙ accepted .if1 .taken))
+    let s = start p in (
+      omega (arith, small p (sym (p .passed .ensures) ∙ accepted .if1 .taken)),
+      room-after (s .pre .1 .held) (omega arith) _ _ (fields-stored _ _ _ _ (omega arith)) _ (c .before .note .ensures) _,
+    )
 
 returns : tie.Need-returns
 returns c =
