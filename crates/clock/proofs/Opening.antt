@@ -27,7 +27,13 @@ opening g = go (eqb g 0) refl
         Opened words g (cond b (begun-words words) (set (begun-words words) 14 1))
     go true e =
         by-words (λ (l : List ℕ). Opened l g (begun-words l))
-        (λ w. record { shows = λ memory. rw (add-one, e) refl; rest = record { same-size = refl; same-numbers = refl; same-plan = λ memory. refl } })
+        (λ w. record {
+          shows = λ memory. rw (add-one, e) refl;
+          rest = record { same-size = refl; same-numbers = refl; same-plan = λ memory. refl };
+        })
     go false e =
         by-words (λ (l : List ℕ). Opened l g (set (begun-words l) 14 1))
-        (λ w. record { shows = λ memory. rw (add-one, e) refl; rest = record { same-size = refl; same-numbers = refl; same-plan = λ memory. refl } })
+        (λ w. record {
+          shows = λ memory. rw (add-one, e) refl;
+          rest = record { same-size = refl; same-numbers = refl; same-plan = λ memory. refl };
+        })

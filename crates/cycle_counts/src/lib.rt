@@ -5,7 +5,7 @@
 use memory::Words;
 ghost use mathlib.Core.Path.{_≡_};
 ghost use Prim.Native.Nat.{_+_, _-_, _≤_, _<_, _^_};
-ghost use lib.ListN.{getD, set};
+ghost use Rattle.memory.specs.Words.{word, with-more, works-word, mugs-word, steals-word};
 
 // Work ticks.
 pub struct WorkCycles(u64);
@@ -33,8 +33,8 @@ impl WorkCycles {
 
     // The count is added to the word that keeps it.
     pub fn add_to(self, words: &mut Words)
-        requires { ⌜ getD (now words) 3 0 + self .0 < 2 ^ 64 ⌝ }
-        ensures { λ _. ⌜ now (words .exit) ≡ set (now (words .entry)) 3 (getD (now (words .entry)) 3 0 + self .0) ⌝ }
+        requires { ⌜ word (now words) works-word + self .0 < 2 ^ 64 ⌝ }
+        ensures { λ _. ⌜ now (words .exit) ≡ with-more (now (words .entry)) works-word (self .0) ⌝ }
     {
         words[memory::WORKS] = words[memory::WORKS] + self.0;
     }
@@ -66,8 +66,8 @@ impl MugCycles {
 
     // The count is added to the word that keeps it.
     pub fn add_to(self, words: &mut Words)
-        requires { ⌜ getD (now words) 4 0 + self .0 < 2 ^ 64 ⌝ }
-        ensures { λ _. ⌜ now (words .exit) ≡ set (now (words .entry)) 4 (getD (now (words .entry)) 4 0 + self .0) ⌝ }
+        requires { ⌜ word (now words) mugs-word + self .0 < 2 ^ 64 ⌝ }
+        ensures { λ _. ⌜ now (words .exit) ≡ with-more (now (words .entry)) mugs-word (self .0) ⌝ }
     {
         words[memory::MUGS] = words[memory::MUGS] + self.0;
     }
@@ -87,8 +87,8 @@ impl StealCycles {
 
     // The count is added to the word that keeps it.
     pub fn add_to(self, words: &mut Words)
-        requires { ⌜ getD (now words) 5 0 + self .0 < 2 ^ 64 ⌝ }
-        ensures { λ _. ⌜ now (words .exit) ≡ set (now (words .entry)) 5 (getD (now (words .entry)) 5 0 + self .0) ⌝ }
+        requires { ⌜ word (now words) steals-word + self .0 < 2 ^ 64 ⌝ }
+        ensures { λ _. ⌜ now (words .exit) ≡ with-more (now (words .entry)) steals-word (self .0) ⌝ }
     {
         words[memory::STEALS] = words[memory::STEALS] + self.0;
     }

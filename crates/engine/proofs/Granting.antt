@@ -106,4 +106,5 @@ module _ {plan : Plan} {calls : List Call} {memory words : List ℕ} (g : ℕ) (
             places = granted .places;
           })
           (began .rest .same-size ∙ granted .tail .same-length ∙ r .words-sized)
-          (subst (λ (m : Numbers). Kept (graph (parts memory′) (m .tasks)) (parts memory′) m) (sym (began .rest .same-numbers)) granted-kept)
+          (subst (λ (m : Numbers). Kept (graph (parts memory′) (m .tasks)) (parts memory′) m)
+          (sym (began .rest .same-numbers)) granted-kept)

@@ -1,5 +1,5 @@
--- What a steal takes of a deque, and what it leaves: not all is taken. This is all that the laws and the code's proofs know of the number of
--- stolen tasks. Assumes nothing.
+-- What a steal takes of a deque, and what it leaves: not all is taken. This is all that the laws and the code's proofs know of the
+-- number of stolen tasks. Assumes nothing.
 use mathlib.Core.Path.{_≡_}
 use mathlib.Core.List.{List, _++_}
 use Prim.Native.Nat.{ℕ, _-_, _≤_, _<_}

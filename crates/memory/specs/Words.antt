@@ -2,9 +2,9 @@
 use mathlib.Core.Path.{_≡_}
 use mathlib.Core.Bool.{Bool, not}
 use mathlib.Core.List.{List}
-use Prim.Native.Nat.{ℕ, _≤_}
+use Prim.Native.Nat.{ℕ, _+_, _≤_}
 use lib.Dec.{eqb}
-use lib.ListN.{length, getD}
+use lib.ListN.{length, getD, set}
 use Rattle.model.specs.Plan.{Terms}
 
 -- so many words has a job
@@ -14,9 +14,23 @@ word-count = 18
 abbrev pub word : List ℕ → ℕ → ℕ
 word words place = getD words place 0
 
+-- the words with so much more in one of them
+abbrev pub with-more : List ℕ → ℕ → ℕ → List ℕ
+with-more words place more = set words place (word words place + more)
+
 -- a flag is set where its word is not 0
 abbrev pub flag : List ℕ → ℕ → Bool
 flag words place = not (eqb (word words place) 0)
+
+-- where the three counts of cycles stand
+abbrev pub works-word : ℕ
+works-word = 3
+
+abbrev pub mugs-word : ℕ
+mugs-word = 4
+
+abbrev pub steals-word : ℕ
+steals-word = 5
 
 -- the numbers of the execution
 pub record Numbers : Type 0 where
@@ -37,9 +51,9 @@ numbers-in words =
       tasks = word words 0;
       workers = word words 1;
       done = word words 2;
-      works = word words 3;
-      mugs = word words 4;
-      steals = word words 5;
+      works = word words works-word;
+      mugs = word words mugs-word;
+      steals = word words steals-word;
       successes = word words 6;
       usage = word words 7;
       head = word words 8;

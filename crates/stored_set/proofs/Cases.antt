@@ -12,7 +12,8 @@ use borrow.Author.Tests.{ltb-true, ltb-false, leb-true, lt-ltb, le-ltb, le-leb, 
 use Rattle.model.specs.Plan.{number}
 use Rattle.stored_set.specs.declared.Placed.{Placed}
 use Rattle.stored_set.specs.declared.Placed.the-variants.{Whole, Cut, End}
-use Rattle.stored_set.specs.Stored.{Stored, input-size, expected-size, case-size, first-case, case-then, stored-up-to, stored, placed-of}
+use Rattle.stored_set.specs.Stored.{Stored, input-size, expected-size, case-size, first-case, case-then, stored-up-to, stored}
+use Rattle.stored_set.specs.Stored.{placed-of}
 
 -- ---- the bound on the number of cases does not matter
 

@@ -5,16 +5,19 @@ use Rattle.program.proofs.Printing.{word-room, RefusalPut, refusal-put}
 use Rattle.program.proofs.put_refusal.Statement.{statement}
 use Rattle.program.proofs.put_refusal.Tie as tie
 
--- what is known at the entry, and what the calls left
+-- what is known where the word was put, and at the entry
+abbrev word-put : tie.After-slice-known3 → tie.After-put-bytes
+word-put c = c .before .before .before .before .before .before
+
 abbrev start : tie.After-slice-known3 → tie.Start
-start c = c .before .before .before .before .before .before .before .before .before .before
+start c = word-put c .before .before .before .before
 
 put-there : (c : tie.After-slice-known3) →
     RefusalPut (start c .args .at) (start c .args .number) (start c .args .out .now) (c .before .before .put-decimal .last .0)
     (c .before .before .put-decimal .result)
 put-there c =
     let decimal-put = c .before .before .put-decimal .ensures in
-    refusal-put _ _ _ (start c .pre) _ _ _ (c .before .before .before .before .before .before .put-bytes .ensures)
+    refusal-put _ _ _ (start c .pre) _ _ _ (word-put c .put-bytes .ensures)
     (decimal-put .0) (decimal-put .1)
 
 put-bytes-requires : tie.Need-put-bytes-requires

@@ -1,5 +1,5 @@
--- `stored_set::run` meets its contract. The loop's invariant: the cases before the place are counted. The measure is what is left of the set.
--- Assumes nothing.
+-- `stored_set::run` meets its contract. The loop's invariant: the cases before the place are counted. The measure is what is left of the
+-- set. Assumes nothing.
 use mathlib.Core.Path.{refl, sym, _∙_}
 use mathlib.Core.Bool.{true, false}
 use mathlib.Core.List.{List}
