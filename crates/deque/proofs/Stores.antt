@@ -17,25 +17,25 @@ module _ (memory : List ℕ) {task : ℕ} {deque : Deque} (r : Releasable (parts
   pub awaits-at : (at ≡ 0 → ⊥) → 1 ≤ getD memory (3072 + at) 0
   awaits-at nz = rw (pending-at memory at inside, same) (r .awaits (λ z. nz (same ∙ z)))
 
-  pub in-later : (at ≡ 0 → ⊥) → 1 < getD memory (3072 + at) 0 →
+  pub in-later : (at ≡ 0 → ⊥) → (getD memory (3072 + at) 0 ≡ 1 → ⊥) →
       Released (parts memory) task deque (parts (set memory (3072 + at) (getD memory (3072 + at) 0 - 1))) deque
   in-later nz more =
-      let more′ : 1 < getD (parts memory .pending) at 0 = rw (pending-at memory at inside) at more in
+      let more′ : 1 < getD (parts memory .pending) at 0 = omega (arith, pending-at memory at inside, awaits-at nz, more) in
       rw (pending-at memory at inside, store-pending memory at (getD (parts memory .pending) at 0 - 1) inside)
       (released-later _ _ _ same nz more′)
 
-  pub in-now : (at ≡ 0 → ⊥) → getD memory (3072 + at) 0 ≤ 1 →
+  pub in-now : (at ≡ 0 → ⊥) → getD memory (3072 + at) 0 ≡ 1 →
       Released (parts memory) task deque
       (parts (set (set memory (3072 + at) (getD memory (3072 + at) 0 - 1)) (2048 + at) (deque .front)))
       (record { front = task; size = deque .size + 1 })
-  in-now nz few =
-      let few′ : getD (parts memory .pending) at 0 ≤ 1 = rw (pending-at memory at inside) at few in
+  in-now nz last =
+      let few : getD (parts memory .pending) at 0 ≤ 1 = omega (arith, pending-at memory at inside) in
       rw (
         pending-at memory at inside,
         store-next (set memory (3072 + at) (getD (parts memory .pending) at 0 - 1)) at (deque .front) inside,
         store-pending memory at (getD (parts memory .pending) at 0 - 1) inside,
       )
-      (released-now _ _ _ r same nz few′)
+      (released-now _ _ _ r same nz few)
 
 -- a first successor alone
 module _ (memory : List ℕ) {one two : ℕ} {deque : Deque} (r : AllReleasable (parts memory) one two deque) (alone : two ≡ 0)
@@ -57,10 +57,10 @@ module _ (memory : List ℕ) {one two : ℕ} {deque : Deque} (r : AllReleasable 
 
   pub one-later : (getD memory (3072 + at) 0 ≡ 1 → ⊥) →
       AllReleased (parts memory) one two deque (parts (set memory (3072 + at) (getD memory (3072 + at) 0 - 1))) deque
-  one-later more = all-released _ _ _ _ r nz second-none (in-later memory first-can same at-used (omega (arith, one-awaits, more)))
+  one-later more = all-released _ _ _ _ r nz second-none (in-later memory first-can same at-used more)
 
   pub one-now : getD memory (3072 + at) 0 ≡ 1 →
       AllReleased (parts memory) one two deque
       (parts (set (set memory (3072 + at) (getD memory (3072 + at) 0 - 1)) (2048 + at) (deque .front)))
       (record { front = one; size = deque .size + 1 })
-  one-now last = all-released _ _ _ _ r nz second-none (in-now memory first-can same at-used (omega (arith, last)))
+  one-now last = all-released _ _ _ _ r nz second-none (in-now memory first-can same at-used last)

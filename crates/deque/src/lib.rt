@@ -108,17 +108,17 @@ pub fn release(memory: &mut Memory, task: u16, deque: Deque) -> Deque
     let pending_at = memory::PENDING + at;
     let awaited = memory[pending_at];
     memory[pending_at] = awaited - 1;
-    if awaited > 1 {
+    if awaited == 1 {
+        let next_at = memory::NEXT + at;
+        memory[next_at] = deque.front;
         return Deque {
-            front: deque.front,
-            size: deque.size,
+            front: task,
+            size: deque.size + 1,
         };
     }
-    let next_at = memory::NEXT + at;
-    memory[next_at] = deque.front;
     Deque {
-        front: task,
-        size: deque.size + 1,
+        front: deque.front,
+        size: deque.size,
     }
 }
 

@@ -14,16 +14,16 @@ sub-memory c = awaits-at _ (c .before .before .before .pre) (c .before .before .
 
 returns-2 : tie.Need-returns-2
 returns-2 c =
-    let shown = c .before .before in
-    in-later _ (shown .before .before .pre) (shown .before .wide .ensures) (shown .if1 .left) (omega (arith, c .if2 .taken))
+    let shown = c .before .before .before in
+    in-now _ (shown .before .before .pre) (shown .before .wide .ensures) (shown .if1 .left) (c .before .if2 .taken)
 
 returns-3 : tie.Need-returns-3
 returns-3 c =
-    let shown = c .before .before .before in
-    in-now _ (shown .before .before .pre) (shown .before .wide .ensures) (shown .if1 .left) (omega (arith, c .before .if2 .left))
+    let shown = c .before .before in
+    in-later _ (shown .before .before .pre) (shown .before .wide .ensures) (shown .if1 .left) (c .if2 .left)
 
 pub release-spec : {M : Type 1} → statement M
 release-spec =
     tie.close
     (tie.spec (λ c κs. search needs) returns (λ c. search needs) (λ c. search needs) (λ c. search needs) sub-memory (λ c. search needs)
-    (λ c. search needs) returns-2 (λ c. search needs) (λ c. search needs) (λ c. search needs) (λ c. search needs) returns-3)
+    (λ c. search needs) (λ c. search needs) (λ c. search needs) (λ c. search needs) (λ c. search needs) returns-2 returns-3)
