@@ -40,6 +40,7 @@ pub record Held (bytes : List ℕ) (i : ℕ) (p : Parts) : Type 0 where
   pub first-held : (t : ℕ) → t < i → getD (p .first) t 0 ≡ first-field bytes t
   pub second-held : (t : ℕ) → t < i → getD (p .second) t 0 ≡ second-field bytes t
   pub counts-held : (t : ℕ) → 1 ≤ t → getD (p .pending) t 0 ≡ counted bytes i t
+  -- each task notes two fields
   pub counts-small : (t : ℕ) → getD (p .pending) t 0 ≤ 2 * i
   pub first-ends : Ends i (p .first)
   pub second-ends : Ends i (p .second)

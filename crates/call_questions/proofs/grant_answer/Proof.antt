@@ -1,12 +1,15 @@
 -- `call_questions::grant_answer` meets its contract: on each way out the tests that were made tell the first "no".
 -- The needs that are only searched for are places below 18 and numbers that fit.
 -- Assumes nothing.
+use mathlib.Core.Path.{_≡_}
+use mathlib.Core.Bool.{Bool, true, false, cond}
 use Prim.Native.Nat.{ℕ}
 use native.Mathlib.Omega.{arith}
 use borrow.Author.Needs.{needs}
 use borrow.Author.Tests.{lt-ltb, le-ltb, le-leb, lt-leb, eq-eqb, ne-eqb}
+use lib.Dec.{leb}
 use denote.Ref.{now}
-use Rattle.model.specs.Questions.{first-no}
+use Rattle.model.specs.Questions.{accepted, refused, first-no}
 use Rattle.model.specs.Machine.{quantum-limit}
 use Rattle.memory.specs.Words.{word}
 use Rattle.call_questions.specs.Asked.{grant-asked}
@@ -40,27 +43,20 @@ returns-3 c =
     let o = c .before .before in
     rw (ne-eqb _ _ (unfinished o .if1 .left), eq-eqb _ 0 (o .if2 .left), le-ltb (word-at o 17) quantum-limit (omega arith))
 
-returns-4 : tie.Need-returns-4
+-- past the first three questions: 14 tells
+by-14 : (c : tie.Else3) → let o = unopened c in
+    (b : Bool) → leb (entry o .args .g) (word-at o 13) ≡ b →
+    cond b accepted (refused 14) ≡ first-no (grant-asked (now (entry o .args .words)) (entry o .args .g))
 unfolding grant-asked first-no
-returns-4 c =
-    let o = unopened (c .before .before) in
-    rw (
-      ne-eqb _ _ (unfinished o .if1 .left),
-      eq-eqb _ 0 (o .if2 .left),
-      lt-ltb (word-at o 17) quantum-limit (omega arith),
-      lt-leb (entry o .args .g) (word-at o 13) (omega arith),
-    )
+by-14 c b told =
+    let o = unopened c in
+    rw (ne-eqb _ _ (unfinished o .if1 .left), eq-eqb _ 0 (o .if2 .left), lt-ltb (word-at o 17) quantum-limit (omega arith), told)
+
+returns-4 : tie.Need-returns-4
+returns-4 c = by-14 (c .before .before) false (lt-leb _ _ (c .if4 .taken))
 
 returns-5 : tie.Need-returns-5
-unfolding grant-asked first-no
-returns-5 c =
-    let o = unopened (c .before .before) in
-    rw (
-      ne-eqb _ _ (unfinished o .if1 .left),
-      eq-eqb _ 0 (o .if2 .left),
-      lt-ltb (word-at o 17) quantum-limit (omega arith),
-      le-leb (entry o .args .g) (word-at o 13) (omega arith),
-    )
+returns-5 c = by-14 (c .before .before) true (le-leb _ _ (c .if4 .left))
 
 pub grant-answer-spec : {M : Type 1} → statement M
 grant-answer-spec =

@@ -1,6 +1,5 @@
 -- `deque::release` meets its contract.
 use borrow.Author.Needs.{needs}
-use native.Mathlib.Omega.{arith}
 use Rattle.deque.proofs.Stores.{awaits-at, in-later, in-now}
 use Rattle.deque.proofs.Releases.{released-none}
 use Rattle.deque.proofs.release.Statement.{statement}
