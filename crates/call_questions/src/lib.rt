@@ -8,7 +8,7 @@ ghost use Rattle.call_questions.specs.Answers.{answer-of};
 ghost use Rattle.call_questions.specs.Asked.{grant-asked, tick-asked, choices-below};
 
 // So many quanta may begin: model's quantum-limit.
-const QUANTUM_LIMIT: u64 = 65535;
+const QUANTUM_LIMIT: u64 = 4096;
 
 // One case for each number of the paper, which answer-of gives.
 pub enum CallAnswer {

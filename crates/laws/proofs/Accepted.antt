@@ -1,4 +1,5 @@
--- What is known of a call when its questions let it through, and a tick by whether the quantum closes with it.
+-- What is known of a call when its questions let it through, of a job whose grant 13 refuses, and of a tick by whether the quantum closes
+-- with it.
 -- Assumes nothing.
 use mathlib.Core.Path.{_≡_, refl}
 use mathlib.Core.Bool.{Bool, true, false, cond, not}
@@ -7,7 +8,7 @@ use Prim.Native.Nat.{ℕ, _≤_, _<_}
 use native.Mathlib.Omega.{arith}
 use lib.Dec.{leb, ltb, eqb}
 use lib.ListN.{length}
-use borrow.Author.Tests.{ltb-true, leb-true, eqb-true, not-true}
+use borrow.Author.Tests.{ltb-true, ltb-false, leb-true, eqb-true, not-true}
 use Rattle.model.specs.Tests.{every}
 use Rattle.model.specs.Questions.{Answer, accepted, refused, first-no}
 use Rattle.model.specs.Plan.{Plan}
@@ -68,6 +69,33 @@ tick-accepted choices s h =
       open-quantum = is-opened (s .quantum) (not-true (no-quantum-open (s .quantum)) (second .0));
       one-each = eqb-true (length choices) (allotment s) (third .0);
       below-allotment = fourth .0;
+    }
+
+-- ---- a grant refused with 13
+
+-- a question that passes a refusal of another number on
+passed : (b : Bool) (rest : Answer) (n m : ℕ) → (n ≡ m → ⊥) → cond b rest (refused n) ≡ refused m → (b ≡ true) × (rest ≡ refused m)
+passed true rest n m other h = (refl, h)
+passed false rest n m other h = absurd (other cc)
+
+-- .. and the one that refuses, before a last question of another number
+refuses : (b c : Bool) (n m : ℕ) → (n ≡ m → ⊥) → cond b (cond c accepted (refused n)) (refused m) ≡ refused m → b ≡ false
+refuses true true n m other h = let z : _≡_ {A = ℕ} 0 1 = cc in absurd (omega arith)
+refuses true false n m other h = absurd (other cc)
+refuses false c n m other h = refl
+
+pub record GrantSpent (s : State) : Type 0 where
+  pub idle-quantum : s .quantum ≡ idle
+  pub no-more-quanta : quantum-limit ≤ s .begun
+
+pub grant-spent : (g : ℕ) (s : State) → call-answer (grants g) s ≡ refused 13 → GrantSpent s
+unfolding call-answer grant-questions first-no
+grant-spent g s h =
+    let first = passed (not (finished (s .execution))) _ 11 13 (λ e. omega arith) h in
+    let second = passed (no-quantum-open (s .quantum)) _ 12 13 (λ e. omega arith) (first .1) in
+    record {
+      idle-quantum = is-idle (s .quantum) (second .0);
+      no-more-quanta = ltb-false (s .begun) quantum-limit (refuses _ (leb g (s .desire)) 14 13 (λ e. omega arith) (second .1));
     }
 
 -- ---- a tick, closing or not

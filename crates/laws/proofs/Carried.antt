@@ -1,6 +1,6 @@
 -- What one induction over the list of calls carries for demand 3: the open quantum agrees with the state, the desire is a count of the
--- ladder, the stack of unused quanta has one for each power below it, and the balance of the mugs holds at that power. The open
--- quantum's agreement gives that a quantum's end is recorded as the state judges it.
+-- ladder, the stack of unused quanta has one for each power below it, the balance of the mugs holds at that power, and the ticks of the
+-- closed quanta are used. The open quantum's agreement gives that a quantum's end is recorded as the state judges it.
 -- Assumes a ladder of desires.
 use mathlib.Core.Path.{_≡_, refl, sym}
 use mathlib.Core.Bool.{true}
@@ -18,6 +18,7 @@ use Rattle.laws.proofs.Ladder.{Ladder}
 use Rattle.laws.proofs.Powers.{Phase, phase-start, phase-granted, phase-ticked, phase-closed, at-end, OnLadder, ended}
 use Rattle.laws.proofs.PairingLaw.{Stacked, stacked-none, stacked-end}
 use Rattle.laws.proofs.MugLimitLaw.{Balance, balance-start, balance-granted, balance-ticked, balance-closed}
+use Rattle.laws.proofs.SpentLaw.{Paced, paced-start, paced-granted, paced-ticked, paced-closed}
 
 module _ (plan : Plan) (ladder : Ladder (plan .terms)) where
   pub record Carried (h : History) : Type 0 where
@@ -26,6 +27,7 @@ module _ (plan : Plan) (ladder : Ladder (plan .terms)) where
     pub desire : OnLadder ladder (h .state .desire) power
     pub stack : Stacked ladder (h .closed-quanta) power
     pub balance : Balance ladder (h .state) (h .closed-quanta) power
+    pub pace : Paced (plan .terms .quantum-length) (h .state) (h .closed-quanta)
 
   carried-start : Carried (beginning plan)
   unfolding beginning fresh
@@ -36,6 +38,7 @@ module _ (plan : Plan) (ladder : Ladder (plan .terms)) where
         desire = record { is-count = sym (ladder .starts); at-most = omega arith };
         stack = stacked-none ladder;
         balance = balance-start plan ladder;
+        pace = paced-start plan;
       }
 
 module _ {plan : Plan} (sound : SoundPlan plan) (ladder : Ladder (plan .terms)) where
@@ -48,6 +51,7 @@ module _ {plan : Plan} (sound : SoundPlan plan) (ladder : Ladder (plan .terms)) 
         desire = c .desire;
         stack = c .stack;
         balance = balance-granted plan ladder (h .state) (h .closed-quanta) (c .power) (c .balance) g (asked .idle-quantum);
+        pace = paced-granted plan (h .state) (h .closed-quanta) (c .pace) g (asked .idle-quantum);
       }
 
   still-open : (calls : List Call) (choices : List ℕ) → TickAccepted choices (run plan calls .state) → Phase (run plan calls) →
@@ -67,6 +71,7 @@ module _ {plan : Plan} (sound : SoundPlan plan) (ladder : Ladder (plan .terms)) 
             balance-ticked plan ladder (run plan calls .state) (run plan calls .closed-quanta) (c .power) (c .balance) _
             (asked .open-quantum)
             choices (asked .one-each);
+        pace = paced-ticked plan _ _ (c .pace) _ (asked .open-quantum) choices (asked .one-each);
       }
 
   carried-closed : (h : History) → closes plan (h .state) ≡ true → Carried plan ladder h → Carried plan ladder (history-closed plan h)
@@ -85,6 +90,7 @@ module _ {plan : Plan} (sound : SoundPlan plan) (ladder : Ladder (plan .terms)) 
             rw (here .verdict-is)
             (balance-closed plan ladder (h .state) (h .closed-quanta) (c .power) (c .balance) _ (here .open-at-end) (next .after)
             (here .no-more) (c .desire .is-count) (next .end));
+        pace = rw (here .verdict-is) (paced-closed plan (h .state) (h .closed-quanta) (c .pace) _ (here .open-at-end) (here .used));
       }
 
   pub carried : (calls : List Call) → Carried plan ladder (run plan calls)

@@ -5,7 +5,8 @@
 -- counts are after any calls. Progress: some worker works or mugs. Order: each task once and in order. Meaning: what the counts count.
 -- Counting: what a tick's cycles spend. Ladder: what is used of the desires, and that the powers of R have it. Powers: the open quantum,
 -- and what a quantum's end does to the desire. Tops: the table of top desires, and that the desire stops there.
--- PairingLaw: the partners of the inefficient quanta. MugLimitLaw: the balance that bounds the mugs. Carried: these in one induction.
+-- PairingLaw: the partners of the inefficient quanta. MugLimitLaw: the balance that bounds the mugs. SpentLaw: what the quanta so far have
+-- used, and what 13 tells. Carried: these in one induction.
 pub mod Deques
 pub mod Stealing
 pub mod Readiness
@@ -26,5 +27,6 @@ pub mod Powers
 pub mod Tops
 pub mod PairingLaw
 pub mod MugLimitLaw
+pub mod SpentLaw
 pub mod Carried
 pub mod Theorems

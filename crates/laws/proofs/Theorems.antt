@@ -10,10 +10,13 @@ use Rattle.model.specs.Statements.{SoundPlan, Progress, Demand3, MugBound, OneI
 use Rattle.model.specs.Statements.{StopsAtTop, EndsAsRecorded}
 use Rattle.laws.specs.Invariants.{Bounded}
 use Rattle.laws.specs.Reached.{Arranged, Measured, CountsFit, largest-granted}
+use Rattle.laws.specs.Spent.{SpentOnly}
 use Rattle.laws.specs.Meaning.{CountsMean, UsageMeans}
 use Rattle.laws.proofs.Ladder.{Ladder, power-ladder}
 use Rattle.laws.proofs.PairingLaw.{pairing-of}
 use Rattle.laws.proofs.MugLimitLaw.{mug-limit-of, mug-bound-of}
+use Rattle.laws.proofs.Accepted.{grant-spent}
+use Rattle.laws.proofs.SpentLaw.{spent-of}
 use Rattle.laws.proofs.Carried.{Carried, carried}
 use Rattle.laws.proofs.Carried as Carried
 use Rattle.laws.proofs.Tops as Tops
@@ -91,6 +94,11 @@ module _ {plan : Plan} (sound : SoundPlan plan) (calls : List Call) where
   -- the same in numbers, for fields of document 01's widths: no sum of the code can wrap
   pub counts-fit : plan .terms .quantum-length ≤ longest-quantum → tasks (plan .graph) ≤ most-tasks → CountsFit (run plan calls .state)
   counts-fit short small = Histories.counts-fit sound short small calls
+
+  -- a grant meets 13 only where every tick of every quantum that may begin is used up: in quanta without a worker, or each with a work or
+  -- mug cycle
+  pub spent-only : SpentOnly plan (run plan calls)
+  spent-only g answer = spent-of plan (run plan calls) (measured .quanta) (carries .pace) (grant-spent g _ answer)
 
   -- work, mug, steal and success count the cycles of their kind among all that the workers made
   pub counts-mean : CountsMean (run plan calls)

@@ -1,6 +1,6 @@
 -- What holds of every state that a history reaches, whatever the calls: where its tasks stand, how many deques there are, and how large
 -- each count can be.
-use mathlib.Core.Path.{_≡_}
+use mathlib.Core.Path.{_≡_, refl}
 use mathlib.Core.Bool.{true, false}
 use mathlib.Core.List.{List, [], _∷_}
 use Prim.Native.Nat.{ℕ, _+_, _*_, _≤_, _<_, max}
@@ -59,10 +59,17 @@ pub record Measured (plan : Plan) (s : State) : Type 0 where
   pub cycles-at-most : all-counted (s .execution .counts) ≤ most-workers * (plan .terms .quantum-length * s .begun)
   pub successful : s .execution .counts .successes ≤ s .execution .counts .steals .steal
 
+-- every worker that a job can want, in every tick of every quantum that it can begin
+abbrev pub most-cycles : ℕ
+most-cycles = most-workers * (longest-quantum * quantum-limit)
+
+pub most-cycles-are : most-cycles ≡ 17179607040
+most-cycles-are = refl
+
 -- in numbers, for a plan whose fields have the widths of document 01: no count comes near 2^64
 pub record CountsFit (s : State) : Type 0 where
   pub work : s .execution .counts .works .work ≤ most-tasks
   pub usage : s .execution .counts .usage ≤ most-workers * longest-quantum
-  pub all-cycles : all-counted (s .execution .counts) ≤ most-workers * (longest-quantum * quantum-limit)
-  pub successes : s .execution .counts .successes ≤ most-workers * (longest-quantum * quantum-limit)
+  pub all-cycles : all-counted (s .execution .counts) ≤ most-cycles
+  pub successes : s .execution .counts .successes ≤ most-cycles
   pub begun : s .begun ≤ quantum-limit

@@ -53,7 +53,7 @@ after-steal success m =
 
 -- ---- counts that can still grow
 
--- no count is above this at the beginning of a tick; 65,535 quanta of 65,535 ticks of 64 workers make fewer than 2 ^ 38 cycles
+-- no count is above this at the beginning of a tick: laws' CountsFit keeps each far below it
 abbrev pub count-limit : ℕ
 count-limit = 2 ^ 63
 

@@ -110,11 +110,14 @@ after-calls bytes calls = run-calls (plan-of bytes) calls (record { state = fres
 quantum-kept : State → List ℕ
 quantum-kept s = cond (no-quantum-open (s .quantum)) 0 1 ∷ ticks-of (s .quantum) ∷ []
 
--- the ten numbers after a log
-shown : List ℕ → List ℕ → List ℕ
-shown bytes log =
-    let ran = run-log (plan-of bytes) log (fresh (plan-of bytes)) in
+-- the ten numbers after a log on a state, or on the fresh one
+shown-from : List ℕ → State → List ℕ → List ℕ
+shown-from bytes s log =
+    let ran = run-log (plan-of bytes) log s in
     counters (plan-of bytes) (ran .state) (ran .refusals)
+
+shown : List ℕ → List ℕ → List ℕ
+shown bytes log = shown-from bytes (fresh (plan-of bytes)) log
 
 -- the refusal's number of a call after others, 0 where it is accepted
 answered : List ℕ → List Call → Call → List ℕ
@@ -139,10 +142,14 @@ labelled sheet status =
 
 -- ---- document 01's examples
 
+-- example 1's log for Plan A
+abbrev log-1 : List ℕ
+log-1 = 0x01 ∷ 0x81 ∷ 0x00 ∷ 0x81 ∷ 0x00 ∷ 0x02 ∷ 0x82 ∷ 0x00 ∷ 0x00 ∷ 0x82 ∷ 0x00 ∷ 0x00 ∷ []
+
 document-rows : List Row
 document-rows =
     -- 1
-    row (program (0x00 ∷ 0x11 ∷ [] ++ plan-a ++ (0x01 ∷ 0x81 ∷ 0x00 ∷ 0x81 ∷ 0x00 ∷ 0x02 ∷ 0x82 ∷ 0x00 ∷ 0x00 ∷ 0x82 ∷ 0x00 ∷ 0x00 ∷ [])))
+    row (program (0x00 ∷ 0x11 ∷ [] ++ plan-a ++ log-1))
     (51 ∷ 32 ∷ 52 ∷ 32 ∷ 52 ∷ 32 ∷ 50 ∷ 32 ∷ 50 ∷ 32 ∷ 52 ∷ 32 ∷ 48 ∷ 32 ∷ 49 ∷ 32 ∷ 48 ∷ 32 ∷ 48 ∷ 10 ∷ [])
     -- 2
     ∷ row (shown plan-a
@@ -186,6 +193,10 @@ fresh-with begun =
     let s = fresh (plan-of plan-a) in
     record { execution = s .execution; started = s .started; desire = s .desire; quantum = s .quantum; begun = begun }
 
+-- the refusal's number of a grant in a state, 0 where it is accepted
+grant-number : ℕ → State → List ℕ
+grant-number g s = answer-number (first-no (grant-questions g s)) ∷ []
+
 quantum-shown : ClosedQuantum → List ℕ
 quantum-shown q = q .wanted ∷ q .granted ∷ cond (q .was-efficient) 1 0 ∷ cond (q .was-satisfied) 1 0 ∷ []
 
@@ -201,9 +212,7 @@ history-shown bytes calls =
 
 -- the ten numbers after a second log on the record of a first
 shown-twice : List ℕ → List ℕ → List ℕ → List ℕ
-shown-twice bytes log more =
-    let ran = run-log (plan-of bytes) more (run-log (plan-of bytes) log (fresh (plan-of bytes)) .state) in
-    counters (plan-of bytes) (ran .state) (ran .refusals)
+shown-twice bytes log more = shown-from bytes (run-log (plan-of bytes) log (fresh (plan-of bytes)) .state) more
 
 statuses-from : Plan → State → List Call → List ℕ
 statuses-from plan s [] = status s ∷ []
@@ -262,11 +271,16 @@ grant-rows =
     ∷ row (flatMap (answered plan-a (grants 0 ∷ [])) (grants 0 ∷ grants 1 ∷ grants 2 ∷ [])) (12 ∷ 12 ∷ 12 ∷ [])
     -- a round of 0 leaves the wanted count
     ∷ row (shown plan-a (0 ∷ 0x80 ∷ 0x80 ∷ [])) (0 ∷ 0 ∷ 4 ∷ 1 ∷ 0 ∷ 0 ∷ 0 ∷ 0 ∷ 0 ∷ 0 ∷ [])
-    -- 13, before 14
-    ∷ row (answer-number (first-no (grant-questions 1 (fresh-with 65534))) ∷ answer-number (first-no (grant-questions 1 (fresh-with 65535)))
-    ∷ answer-number (first-no (grant-questions 2 (fresh-with 65535))) ∷ []) (0 ∷ 13 ∷ 13 ∷ [])
+    -- request U4: 13 is passed with 4,095 rounds begun, and not with 4,096
+    ∷ row (grant-number 1 (fresh-with 4095)) (0 ∷ [])
+    ∷ row (grant-number 1 (fresh-with 4096)) (13 ∷ [])
+    -- 13 comes before 14
+    ∷ row (flatMap (grant-number 2) (fresh-with 4095 ∷ fresh-with 4096 ∷ [])) (14 ∷ 13 ∷ [])
     -- the last round is open: 12 comes before 13
-    ∷ row (answer-number (first-no (grant-questions 1 (step (plan-of plan-a) (grants 1) (fresh-with 65534)))) ∷ []) (12 ∷ [])
+    ∷ row (grant-number 1 (step (plan-of plan-a) (grants 1) (fresh-with 4095))) (12 ∷ [])
+    -- the 4,096th round finishes example 1; with a round fewer left, the log counts its second grant and the two ticks as refused
+    ∷ row (shown-from plan-a (fresh-with 4094) log-1) (3 ∷ 4 ∷ 4 ∷ 2 ∷ 2 ∷ 4 ∷ 0 ∷ 1 ∷ 0 ∷ 0 ∷ [])
+    ∷ row (shown-from plan-a (fresh-with 4095) log-1) (1 ∷ 2 ∷ 4 ∷ 2 ∷ 1 ∷ 2 ∷ 0 ∷ 0 ∷ 0 ∷ 3 ∷ [])
     -- piece 0 in worker 0's line, and not as an orphan
     ∷ row (placed plan-a (grants 1 ∷ [])) (1 ∷ 0 ∷ [])
     -- so the first tick is a work tick and no mug tick
@@ -415,9 +429,10 @@ rows = document-rows ++ our-rows
 
 -- every row holds
 pub table : failing 0 rows ≡ []
-unfolding same row-holds failing task plan-bytes diamond one-task seven easy-seven ten link chain refusal after-calls quantum-kept shown
-    answered listed placed labelled document-rows seven-tasks header-fields task-fields fresh-with quantum-shown current-shown
-    history-shown shown-twice statuses-from statuses plan-rows grant-rows tick-rows quantum-rows log-rows program-rows our-rows rows
+unfolding same row-holds failing task plan-bytes diamond one-task seven easy-seven ten link chain refusal after-calls quantum-kept
+    shown-from shown answered listed placed labelled document-rows seven-tasks header-fields task-fields fresh-with grant-number
+    quantum-shown current-shown history-shown shown-twice statuses-from statuses
+    plan-rows grant-rows tick-rows quantum-rows log-rows program-rows our-rows rows
     below every keep member count-set all-set first-no flatMap Plan.predecessors Plan.number Plan.header Plan.task-bits
     Plan.successor-fields Plan.plan-of Plan.fields-ok Plan.two-differ Plan.targets-ok Plan.task-questions Plan.all-preceded
     Plan.one-exit Plan.header-questions Plan.graph-questions Plan.plan-questions Plan.plan-answer Machine.finished Machine.fresh

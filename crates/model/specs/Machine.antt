@@ -80,9 +80,10 @@ fresh plan =
 
 -- ---- Grant
 
--- "Have fewer than 65,535 rounds begun?"
+-- "Have fewer than 4,096 rounds begun?", where document 01 has 65,535. Request U4: "Make that the limit in place of 65,535 .. A grant that
+-- passes 11 and 12 meets question 13 with 4,095 rounds begun; with 4,096 begun it is turned down with the number 13 it has today."
 abbrev pub quantum-limit : ℕ
-quantum-limit = 65535
+quantum-limit = 4096
 
 abbrev pub no-quantum-open : Quantum → Bool
 no-quantum-open idle = true
