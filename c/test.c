@@ -210,21 +210,35 @@ static void test_calls(void)
     release_job(job);
 }
 
-/* 65,535 quanta of 0 workers and one tick each */
+/* all quanta that may begin, of 0 workers and one tick each; then as a log */
 static void test_spent_quanta(void)
 {
+    static uint8_t log[2 * JIRVALDO_QUANTA_MAX + 2];
     plan_bytes plan;
     jirvaldo_job *job;
     unsigned long quanta;
+    uint64_t refused = 99;
+    size_t i;
     chain(&plan, 2, 80, 1, 2);
     job = accepted(&plan);
-    for (quanta = 0; quanta < 65535; quanta++) {
-        if (jirvaldo_grant(job, 0) != 0 || jirvaldo_tick(job, NULL, 0) != 0) break;
-    }
-    CHECK(quanta == 65535);
+    for (quanta = 0; quanta <= JIRVALDO_QUANTA_MAX && jirvaldo_grant(job, 0) == 0; quanta++) CHECK(jirvaldo_tick(job, NULL, 0) == 0);
+    CHECK(quanta == JIRVALDO_QUANTA_MAX);
     refuses_grant(job, 0, JIRVALDO_GRANT_QUANTA_SPENT);
+    refuses_grant(job, 1, JIRVALDO_GRANT_QUANTA_SPENT);
     refuses_grant(job, UINT64_MAX, JIRVALDO_GRANT_QUANTA_SPENT);
+    refuses_tick(job, NULL, 0, JIRVALDO_TICK_NO_QUANTUM);
     CHECK(line_is(job, 0, "0 0 2 1 0 0 0 0 0 0"));
+    release_job(job);
+    job = accepted(&plan);
+    for (i = 0; i < sizeof log; i += 2) {
+        log[i] = 0;
+        log[i + 1] = 0x80;
+    }
+    CHECK(jirvaldo_run_log(job, log, sizeof log - 2, &refused) == 0 && refused == 0);
+    CHECK(jirvaldo_run_log(job, log, 2, &refused) == 0 && refused == 2);
+    release_job(job);
+    job = accepted(&plan);
+    CHECK(jirvaldo_run_log(job, log, sizeof log, &refused) == 0 && refused == 2);
     release_job(job);
 }
 

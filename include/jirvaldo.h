@@ -26,6 +26,7 @@ enum {
     JIRVALDO_TASKS_MAX = 1024,  /* tasks of a plan */
     JIRVALDO_PLAN_MAX = 3077,   /* bytes of the longest plan, 5 + 3 * 1,024 */
     JIRVALDO_WORKERS_MAX = 64,  /* workers that a job can want, and choices of a tick */
+    JIRVALDO_QUANTA_MAX = 4096, /* quanta that a job may begin, those without a worker too */
     JIRVALDO_LINE_BUFFER = 128, /* bytes that a buffer for the counters line needs */
     JIRVALDO_JOB_SIZE = 8848    /* bytes of a job */
 };
@@ -113,8 +114,8 @@ static inline unsigned jirvaldo_accept(jirvaldo_job *job, const uint8_t *plan, s
 }
 
 /* Grants a number of workers, 0 included, for the next quantum. 0: the quantum is open and takes L ticks; workers above the number are
- * withdrawn and their deques wait to be mugged. 11: the job is finished. 12: a quantum is open. 13: 65,535 quanta have begun. 14: the
- * job wants fewer workers, as it does of every number above 64. Refused, the job is byte for byte as it was. */
+ * withdrawn and their deques wait to be mugged. 11: the job is finished. 12: a quantum is open. 13: JIRVALDO_QUANTA_MAX quanta have begun.
+ * 14: the job wants fewer workers, as it does of every number above 64. Refused, the job is byte for byte as it was. */
 static inline unsigned jirvaldo_grant(jirvaldo_job *job, uint64_t workers)
 {
     return jirvaldo_core_grant(job->memory_, job->words_, workers);
@@ -210,7 +211,7 @@ static inline const char *jirvaldo_sentence(unsigned number)
     case JIRVALDO_PLAN_LOOSE_END: return "A task before the last has no successor; only the last task may have none.";
     case JIRVALDO_JOB_FINISHED: return "The job is finished and takes no more grants and ticks.";
     case JIRVALDO_GRANT_QUANTUM_OPEN: return "A quantum is open; tick until it closes, then grant.";
-    case JIRVALDO_GRANT_QUANTA_SPENT: return "65,535 quanta have begun, the most that a job may have.";
+    case JIRVALDO_GRANT_QUANTA_SPENT: return "4,096 quanta have begun, the most that a job may have.";
     case JIRVALDO_GRANT_ABOVE_DESIRE: return "More workers are granted than the job desires; grant at most its desire.";
     case JIRVALDO_TICK_NO_QUANTUM: return "No quantum is open; a grant opens one.";
     case JIRVALDO_TICK_CHOICE_COUNT: return "The tick has not exactly one choice for each granted worker.";

@@ -58,5 +58,8 @@ pub const LONGEST_PLAN: usize = 5 + 3 * MOST_TASKS;
 /// The most workers that a job ever desires.
 pub const MOST_WORKERS: usize = 64;
 
+/// The most quanta that a job may begin, those without a worker too. A grant after that is [`Refusal::QuantaSpent`].
+pub const MOST_QUANTA: usize = 4096;
+
 /// The least size of a buffer for the counters line. The line itself is shorter.
 pub const LINE_BUFFER: usize = 128;

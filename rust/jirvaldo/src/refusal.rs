@@ -48,7 +48,7 @@ pub enum Refusal {
     Finished = 11,
     /// 12: a quantum is open (asked of a grant).
     QuantumOpen = 12,
-    /// 13: 65,535 quanta have begun (asked of a grant).
+    /// 13: as many quanta have begun as a job may have, [`MOST_QUANTA`](crate::MOST_QUANTA) (asked of a grant).
     QuantaSpent = 13,
     /// 14: more workers are granted than the job desires.
     AboveDesire = 14,
@@ -120,7 +120,7 @@ impl Refusal {
             LooseEnd => "a task before the last has no successor; only the last task may have none",
             Finished => "the job is finished and takes no more grants and ticks",
             QuantumOpen => "a quantum is open; tick until it closes, then grant",
-            QuantaSpent => "65,535 quanta have begun, the most that a job may have",
+            QuantaSpent => "4,096 quanta have begun, the most that a job may have",
             AboveDesire => {
                 "more workers are granted than the job desires; grant at most its desire"
             }

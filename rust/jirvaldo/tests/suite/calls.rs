@@ -1,7 +1,7 @@
 //! Grants, ticks and logs: refusals 11 to 18, and the edges of their arguments.
 
 use jirvaldo::inspect::State;
-use jirvaldo::{Job, Refusal};
+use jirvaldo::{Job, Refusal, MOST_QUANTA};
 
 use super::{chain, hex, job, plan, plan_a};
 
@@ -28,16 +28,32 @@ fn every_call_refusal() {
 }
 
 #[test]
-fn no_more_than_65535_quanta() {
+fn no_more_quanta_than_the_most() {
     let mut job = job(&chain(2));
-    for _ in 0..65_535 {
+    for _ in 1..MOST_QUANTA {
         assert_eq!(job.grant(0), Ok(()));
         assert_eq!(job.tick(&[]), Ok(()));
     }
-    refused(&mut job, 13, |j| j.grant(0));
-    refused(&mut job, 13, |j| j.grant(u64::MAX));
+    refused(&mut job, 14, |j| j.grant(2));
+    assert_eq!(job.grant(0), Ok(()));
+    refused(&mut job, 12, |j| j.grant(0));
+    assert_eq!(job.tick(&[]), Ok(()));
+    for workers in [0, 1, 2, u64::MAX] {
+        refused(&mut job, 13, |j| j.grant(workers));
+    }
     refused(&mut job, 15, |j| j.tick(&[]));
-    assert_eq!(State::of(&job).quanta_begun, 65_535);
+    assert_eq!(usize::from(State::of(&job).quanta_begun), MOST_QUANTA);
+}
+
+/// A log counts the grants that meet 13, and the ticks after them.
+#[test]
+fn a_log_past_the_last_quantum() {
+    let mut job = job(&chain(2));
+    let run = job.run_log(&[0x00, 0x80].repeat(MOST_QUANTA));
+    assert_eq!((run.refused_calls, run.end), (0, Ok(())));
+    let run = job.run_log(&hex("00 80 01 81 00 7f"));
+    assert_eq!((run.refused_calls, run.end), (5, Ok(())));
+    assert_eq!(&*job.line(run.refused_calls), "0 0 2 1 0 0 0 0 0 5");
 }
 
 #[test]

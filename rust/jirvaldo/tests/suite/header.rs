@@ -1,6 +1,6 @@
 //! The C header and the documents' tables say the same.
 
-use jirvaldo::Refusal;
+use jirvaldo::{Refusal, LINE_BUFFER, LONGEST_PLAN, MOST_QUANTA, MOST_TASKS, MOST_WORKERS};
 
 const HEADER: &str = include_str!("../../../../include/jirvaldo.h");
 const INTEGRATING: &str = include_str!("../../../../docs/INTEGRATING.md");
@@ -34,6 +34,25 @@ fn sentences() {
         let expected = format!("return \"{}\";", whole_sentence(refusal));
         assert_eq!(said, Some(expected.as_str()), "{}", name(refusal));
     }
+}
+
+/// The header's limits are the crate's.
+#[test]
+fn limits() {
+    let limits = [
+        ("JIRVALDO_TASKS_MAX", MOST_TASKS),
+        ("JIRVALDO_PLAN_MAX", LONGEST_PLAN),
+        ("JIRVALDO_WORKERS_MAX", MOST_WORKERS),
+        ("JIRVALDO_QUANTA_MAX", MOST_QUANTA),
+        ("JIRVALDO_LINE_BUFFER", LINE_BUFFER),
+    ];
+    for (name, limit) in limits {
+        let said = format!("    {name} = {limit},");
+        let found = HEADER.lines().filter(|line| line.starts_with(&said));
+        assert_eq!(found.count(), 1, "{said}");
+    }
+    let thousands = format!("{},{:03} quanta", MOST_QUANTA / 1000, MOST_QUANTA % 1000);
+    assert!(Refusal::QuantaSpent.to_string().starts_with(&thousands));
 }
 
 /// `docs/INTEGRATING.md` has a row for each refusal, with the header's name and sentence, and no other.
