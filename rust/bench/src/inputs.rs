@@ -4,7 +4,7 @@ use reference::generator::graph::{graph, Graph, Shape, MOST_TASKS};
 use reference::generator::logs::Writer;
 use reference::generator::plans::Draft;
 use reference::generator::Random;
-use reference::{run_log, Job};
+use reference::{run_log, run_log_with, Job, Refusal, MOST_QUANTA};
 
 /// A plan, the log that brings its job to the measured state, and the calls that are measured, as a log too.
 pub struct Scene {
@@ -125,6 +125,17 @@ fn cycles(scene: &Scene) -> (usize, usize, usize) {
     let after = counts(&job);
     let more = |kind: usize| (after[kind] - before[kind]) as usize;
     (more(0), more(1), more(2))
+}
+
+/// Whether a scene grants no quantum after the last that may begin.
+pub fn has_quanta(scene: &Scene) -> bool {
+    let mut job = Job::accept(&scene.plan).expect("the benchmark's plans are sound");
+    let mut spent = false;
+    run_log(&mut job, &scene.before);
+    run_log_with(&mut job, &scene.timed, |_, _, answer| {
+        spent |= matches!(answer, Err(Refusal::QuantaExhausted));
+    });
+    !spent
 }
 
 /// The log so far, and the rest of it from now on.
@@ -335,14 +346,18 @@ pub fn wide_log() -> Scene {
     }
 }
 
-/// The shortest entries: quanta of no workers, a grant and a tick of one byte each.
+/// The shortest entries, a byte each: as many quanta of no workers as a job may begin, so long that the log is full.
 pub fn short_log() -> Scene {
     let mut graph = Graph::new();
     chain(&mut graph, MOST_TASKS);
+    let quanta = MOST_QUANTA as usize;
+    let length = LOG_BYTES / quanta - 1;
+    let plan = plan_bytes(&graph, 2, length);
+    let quantum = [vec![0x00], vec![0x80; length]].concat();
     Scene {
-        plan: plan_bytes(&graph, 2, 1),
+        plan,
         before: Vec::new(),
-        timed: [0x00, 0x80].repeat(LOG_BYTES / 2),
+        timed: quantum.repeat(quanta),
     }
 }
 

@@ -319,6 +319,7 @@ pub fn acceptances(name: &str, tasks: usize) -> Row {
 
 /// A row of one log.
 pub fn replay(name: &str, scene: &Scene) -> Row {
+    assert!(inputs::has_quanta(scene), "{name} meets 13");
     row!(name, "log", 1, replays, scene)
 }
 

@@ -1,9 +1,8 @@
 //! The inputs of a case, over the reference's generator: plans, logs, sheets, buffers.
 
 use reference::generator::damage::{damaged, damaged_twice, flipped};
-use reference::generator::graph::{graph, Shape};
 use reference::generator::logs::{blind_log, guided_log, style, Style};
-use reference::generator::plans::{sound_draft, wide_draft, Draft};
+use reference::generator::plans::{sound_draft, wide_draft};
 use reference::generator::Random;
 
 use crate::pair::Reference;
@@ -30,16 +29,6 @@ pub fn plan(random: &mut Random) -> Vec<u8> {
         }
         _ => draft.bytes(),
     }
-}
-
-/// A sound plan with quanta of one tick, too large for a short log to finish it.
-pub fn marathon_plan(random: &mut Random) -> Vec<u8> {
-    let count = random.between(100, 400);
-    let mut draft = Draft::of_graph(&graph(random, Shape::Layered { width: 30 }, count));
-    draft.responsiveness = random.between(2, 7) as u64;
-    draft.utilization = random.between(1, 30) as u64;
-    draft.quantum_length = 1;
-    draft.bytes()
 }
 
 /// A log for a job: one that follows it (three of four), the same with some bytes changed, or one that does not look at it.

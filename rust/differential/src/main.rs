@@ -10,9 +10,10 @@
 //! - at random places and at the end of each log: the wording from a random sheet and the counters line in buffers of many sizes, with the
 //!   bytes around it.
 //!
-//! Case 0 begins more quanta than a job may have, and the next cases have the plans at the edge of each question. The run stops at the end
-//! of the case in which it has made N calls or T seconds have passed; the same seed gives the same cases. At the first difference it
-//! prints the seed, the case, the call and both states, and exits with 1; `--case K` runs that case alone.
+//! Case 0 and every hundredth after it begin all quanta that a job may have, and go on; the cases after case 0 have the plans at the edge
+//! of each question. The run stops at the end of the case in which it has made N calls or T seconds have passed; the same seed gives the
+//! same cases. At the first difference it prints the seed, the case, the call and both states, and exits with 1; `--case K` runs that case
+//! alone.
 
 #![forbid(unsafe_code)]
 

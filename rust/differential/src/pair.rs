@@ -1,6 +1,6 @@
 //! Two jobs that are given the same calls, and what is compared.
 
-use reference::Entry;
+use reference::{run_log_with, Entry};
 
 use crate::compare::{self, Part};
 use crate::difference::Difference;
@@ -98,11 +98,13 @@ impl Pair {
     /// Runs a whole log on both and compares the answers, the counts of refused calls and the whole states.
     pub fn run_log(&mut self, log: &[u8], totals: &mut Totals) -> Result<(), Difference> {
         let proved = self.proved.run_log(log);
-        let reference = reference::run_log(&mut self.reference, log);
+        let reference = run_log_with(&mut self.reference, log, |_, _, answer| {
+            totals.count_in_log(reference_number(answer));
+        });
         let broken = reference.broken.map_or(Ok(()), Err);
         let pair = (proved_number(&proved.end), proved.refused_calls);
         let other = (reference_number(&broken), reference.refused);
-        totals.count_log(log, pair.0);
+        totals.count_log(pair.0);
         if pair != other {
             let answers = format!("log {log:02x?}: proved {pair:?}, reference {other:?}");
             return Err(self.difference("log", answers));

@@ -4,6 +4,7 @@ use std::time::Instant;
 
 use reference::generator::edges::edge_plans;
 use reference::generator::logs::marathon_log;
+use reference::generator::plans::marathon_draft;
 use reference::generator::Random;
 
 use crate::accept::accept;
@@ -40,26 +41,33 @@ fn run_case(seed: u64, case: u64, totals: &mut Totals) -> Result<(), Found> {
     })
 }
 
-/// Case 0 has a plan for more quanta than a job may have, the next cases have those at the edge of each question, all others any.
+/// Whether a case spends every quantum that a job may begin.
+fn is_marathon(case: u64) -> bool {
+    case % 100 == 0
+}
+
+/// Every hundredth case has a plan for as many quanta as a job may begin. The cases after the first have those at the edge of each
+/// question, all others any.
 fn plan(random: &mut Random, case: u64) -> Vec<u8> {
-    if case == 0 {
-        return inputs::marathon_plan(random);
+    if is_marathon(case) {
+        return marathon_draft(random).bytes();
     }
     let place = usize::try_from(case - 1).unwrap_or(usize::MAX);
     let edge = edge_plans().into_iter().nth(place);
     edge.unwrap_or_else(|| inputs::plan(random))
 }
 
-/// A plan and, where it is accepted, a log, which at times is run whole too.
+/// A plan and, where it is accepted, a log, which at times is run whole too, and always where it spends every quantum.
 fn try_case(random: &mut Random, case: u64, totals: &mut Totals) -> Result<(), Difference> {
     let plan = plan(random, case);
     let pair = match accept(random, &plan, totals)? {
         Some(pair) => pair,
         None => return Ok(()),
     };
-    let log = match case {
-        0 => marathon_log(random, pair.reference.clone()),
-        _ => inputs::log(random, &pair.reference),
+    let log = if is_marathon(case) {
+        marathon_log(random, pair.reference.clone())
+    } else {
+        inputs::log(random, &pair.reference)
     };
     let mut fresh = pair.clone();
     let mut walk = Walk {
@@ -68,7 +76,7 @@ fn try_case(random: &mut Random, case: u64, totals: &mut Totals) -> Result<(), D
         totals,
     };
     walk.follow(&log)?;
-    if random.chance(64) {
+    if random.chance(64) || is_marathon(case) {
         fresh.run_log(&log, totals)?;
     }
     Ok(())

@@ -2,8 +2,10 @@
 
 use std::time::Duration;
 
-use reference::generator::plans::{sound_draft, Draft};
+use reference::generator::logs::marathon_log;
+use reference::generator::plans::{marathon_draft, sound_draft, Draft};
 use reference::generator::Random;
+use reference::{Entries, Rules, MOST_QUANTA};
 
 use crate::accept::fresh;
 use crate::compare::{self, Part};
@@ -138,6 +140,31 @@ fn one_turned_task_is_found_on_the_way() {
     assert!(found(true) > 60, "{} found", found(true));
 }
 
+/// What differs where the reference lets that many quanta begin: call by call, and with the log run whole.
+fn with_limit(most_quanta: u32, seed: u64) -> [Option<Part>; 2] {
+    let random = &mut Random::new(seed);
+    let plan = marathon_draft(random);
+    let mut pair = pair(&plan, &plan);
+    let log = marathon_log(random, pair.reference.clone());
+    pair.reference = pair.reference.with_rules(Rules { most_quanta });
+    let totals = &mut Totals::default();
+    let mut calls = pair.clone();
+    let mut entries = Entries::new(&log).filter_map(Result::ok);
+    let called = entries.try_for_each(|entry| calls.call(Call::from(entry), totals));
+    let whole = pair.run_log(&log, totals);
+    [called, whole].map(|found| found.err().map(|difference| difference.part))
+}
+
+#[test]
+fn another_limit_of_quanta_is_found() {
+    for seed in 0..4 {
+        assert_eq!(with_limit(MOST_QUANTA, seed), [None, None]);
+        for limit in [MOST_QUANTA - 1, MOST_QUANTA + 1, 65_535] {
+            assert_eq!(with_limit(limit, seed), [Some("answer"), Some("log")]);
+        }
+    }
+}
+
 #[test]
 fn a_moved_job_is_found_after_a_refused_call() {
     let mut pair = pair(&fork(), &fork());
@@ -204,6 +231,7 @@ fn a_run_reaches_every_refusal() {
     );
     assert!(totals.calls >= 250_000 && totals.states > totals.calls);
     assert!(totals.refusals[1..].iter().all(|&count| count > 0));
+    assert!(totals.log_refusals[11..=17].iter().all(|&count| count > 0));
     assert!(totals.responsiveness[2..].iter().all(|&count| count > 0));
     assert!(totals.ticks[0] > 0 && totals.ticks[64] > 0);
 }

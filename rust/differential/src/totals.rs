@@ -2,8 +2,6 @@
 
 use std::fmt;
 
-use reference::Entries;
-
 use crate::pair::{Call, Reference};
 
 /// Counts of a run.
@@ -30,6 +28,8 @@ pub struct Totals {
     pub logs: u64,
     /// The calls in them; the states were compared at the log's end.
     pub log_calls: u64,
+    /// Those of them that were refused, by number, as the reference says; the two sides' counts of them are compared.
+    pub log_refusals: [u64; 21],
     /// Comparisons of whole states.
     pub states: u64,
     /// Copies that took other calls than their original.
@@ -52,6 +52,7 @@ impl Default for Totals {
             cycles: [0; 4],
             logs: 0,
             log_calls: 0,
+            log_refusals: [0; 21],
             states: 0,
             branches: 0,
             wordings: 0,
@@ -104,10 +105,17 @@ impl Totals {
         }
     }
 
+    /// Counts a call of a log that was run whole, by its answer's number.
+    pub fn count_in_log(&mut self, number: u8) {
+        self.log_calls += 1;
+        if number != 0 {
+            add(&mut self.log_refusals, usize::from(number));
+        }
+    }
+
     /// Counts a log that was run whole and its answer.
-    pub fn count_log(&mut self, log: &[u8], number: u8) {
+    pub fn count_log(&mut self, number: u8) {
         self.logs += 1;
-        self.log_calls += Entries::new(log).filter(|entry| entry.is_ok()).count() as u64;
         self.count_refusal(number);
     }
 }
@@ -129,8 +137,13 @@ impl fmt::Display for Totals {
             "{:>12}  plans that took the place of a used job",
             self.replacements
         )?;
-        for (number, count) in self.refusals.iter().enumerate().skip(1) {
-            writeln!(out, "{count:>12}  refusals {number}")?;
+        let in_logs = self.refusals.iter().zip(self.log_refusals);
+        for (number, (count, in_logs)) in in_logs.enumerate().skip(1) {
+            write!(out, "{count:>12}  refusals {number}")?;
+            match number {
+                11..=17 => writeln!(out, ", and {in_logs} in logs run whole")?,
+                _ => writeln!(out)?,
+            }
         }
         writeln!(out, "{:>12}  wordings compared", self.wordings)?;
         writeln!(out, "{:>12}  counters lines compared", self.lines)?;

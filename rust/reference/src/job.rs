@@ -7,8 +7,25 @@ use crate::plan::{read_plan, Plan};
 use crate::quantum::{classify, is_efficient, next_desire, QuantumEnd};
 use crate::refusal::{ask, Refusal};
 
-/// No more quanta than this begin.
-pub const MOST_QUANTA: u32 = 65_535;
+/// No more quanta than this begin. Request U4: a grant passes with 4,095
+/// begun and is refused with 13 where 4,096 have begun.
+pub const MOST_QUANTA: u32 = 4_096;
+
+/// Rules that a test can bend, to see that a comparison finds a job that
+/// follows others. The default ones are document 01's with its requests.
+#[derive(Clone, Copy, Debug, PartialEq, Eq)]
+pub struct Rules {
+    /// No more quanta than this begin.
+    pub most_quanta: u32,
+}
+
+impl Default for Rules {
+    fn default() -> Rules {
+        Rules {
+            most_quanta: MOST_QUANTA,
+        }
+    }
+}
 
 /// A deque (document 01: line) of ready tasks. The front is the one its
 /// worker works on, the back is what others may steal.
@@ -63,6 +80,7 @@ pub struct Job {
     steal_cycles: u64,
     successful_steals: u64,
     ever_granted: bool,
+    rules: Rules,
 }
 
 /// What an accepted grant did.
@@ -124,7 +142,13 @@ impl Job {
             steal_cycles: 0,
             successful_steals: 0,
             ever_granted: false,
+            rules: Rules::default(),
         }
+    }
+
+    /// The same job, which follows these rules from now on.
+    pub fn with_rules(self, rules: Rules) -> Job {
+        Job { rules, ..self }
     }
 
     /// The job's plan.
@@ -239,7 +263,8 @@ impl Job {
     fn ask_grant(&self, allotment: usize) -> Result<(), Refusal> {
         ask(!self.is_finished(), Refusal::JobFinished)?;
         ask(self.quantum.is_none(), Refusal::QuantumOpen)?;
-        ask(self.quanta_begun < MOST_QUANTA, Refusal::QuantaExhausted)?;
+        let limit = self.rules.most_quanta;
+        ask(self.quanta_begun < limit, Refusal::QuantaExhausted)?;
         ask(allotment <= self.desire, Refusal::GrantAboveDesire)
     }
 

@@ -1,6 +1,7 @@
 //! A second implementation of document 01's scheduler (A-Steal over a task
-//! graph), written from that document alone. It shares no code with the
-//! proved implementation and is there to be compared with it.
+//! graph), written from that document and the requests of document 02 alone.
+//! It shares no code with the proved implementation and is there to be
+//! compared with it.
 //!
 //! Reading order, which is document 01's: [`plan`], [`job`] (grant and tick),
 //! [`quantum`] (round's end), [`log`], [`label`], [`counters`], [`program`].
@@ -24,7 +25,7 @@ pub mod refusal;
 pub mod stored;
 
 pub use counters::{counters_line, counters_text};
-pub use job::{Cycle, GrantReport, Job, OpenQuantum, Status, TickReport};
+pub use job::{Cycle, GrantReport, Job, OpenQuantum, Rules, Status, TickReport, MOST_QUANTA};
 pub use label::wording;
 pub use log::{run_log, run_log_with, Entries, Entry, LogOutcome, Report};
 pub use plan::{read_plan, Plan, Task};

@@ -79,7 +79,7 @@ impl Refusal {
             SinkNotUnique => "a task other than the last one has no successor",
             JobFinished => "the job is finished",
             QuantumOpen => "a quantum is open",
-            QuantaExhausted => "65,535 quanta have begun",
+            QuantaExhausted => "4,096 quanta have begun",
             GrantAboveDesire => "the grant is above the desire",
             NoQuantumOpen => "no quantum is open",
             ChoiceCountWrong => "there is not exactly one choice for each granted worker",

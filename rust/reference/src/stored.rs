@@ -7,7 +7,7 @@ use crate::generator::graph::{graph, Shape, MOST_TASKS};
 use crate::generator::logs::{guided_log, Grants, Style, Writer, CHOICES, ENDINGS, GRANTS};
 use crate::generator::plans::{wide_draft, Draft};
 use crate::generator::{cases, Random};
-use crate::job::Job;
+use crate::job::{Job, MOST_QUANTA};
 use crate::plan::{big_endian, split};
 use crate::program::{program_output, MOST_INPUT};
 use crate::quantum::MOST_WORKERS;
@@ -19,7 +19,7 @@ pub const KEPT_SEED: u64 = 1;
 const SMALL: usize = 400;
 
 /// Generated cases are taken until the set has this size.
-const ENOUGH: usize = 220_000;
+const ENOUGH: usize = 253_000;
 
 const SHAPES: [Shape; 5] = [
     Shape::Chain,
@@ -33,8 +33,14 @@ const SHAPES: [Shape; 5] = [
 pub fn stored_set(seed: u64) -> Vec<u8> {
     let mut random = Random::new(seed);
     let mut set = Vec::new();
-    let made = [bare(), edges(), shaped(&mut random), wide(&mut random)].concat();
-    for input in made {
+    let made = [
+        bare(),
+        edges(),
+        spent(),
+        shaped(&mut random),
+        wide(&mut random),
+    ];
+    for input in made.concat() {
         store(&mut set, &input);
     }
     let small = cases(seed).filter(|case| case.input.len() <= SMALL);
@@ -51,7 +57,8 @@ pub fn stored_set(seed: u64) -> Vec<u8> {
 }
 
 /// The first generated input of a size whose output begins so. A job that is
-/// held at the end takes every call that fills the input up.
+/// held at the end takes the calls that fill the input up, until its quanta
+/// are spent.
 fn long(seed: u64, size: usize, output: &str) -> Vec<u8> {
     let mut inputs = cases(seed).map(|case| case.input);
     let fits = |input: &Vec<u8>| input.len() == size && program_output(input).starts_with(output);
@@ -83,6 +90,34 @@ fn edges() -> Vec<Vec<u8>> {
     let log = [1, 0x81, 0, 0x81, 0, 2, 0x82, 0, 0, 0x82, 0, 0];
     let plans = edge_plans().into_iter();
     plans.map(|plan| input(&plan, &log)).collect()
+}
+
+/// A chain of three tasks with L = 1 around the last quantum that may begin. A
+/// quantum of 0 workers is `00 80`, and one that works a task is `01 81 00`.
+fn spent() -> Vec<Vec<u8>> {
+    let mut draft = draft(&mut Random::new(0), Shape::Chain, 3, 2);
+    draft.quantum_length = 1;
+    let plan = draft.bytes();
+    let most = MOST_QUANTA as usize;
+    let log = |before: &[u8], idle: usize, after: &[u8]| {
+        let log = [before, &[0x00, 0x80].repeat(idle), after].concat();
+        input(&plan, &log)
+    };
+    let work: &[u8] = &[0x01, 0x81, 0x00];
+    vec![
+        // A fresh job: every grant meets 13, also above the desire.
+        log(&[], most, &[0x00, 0x01, 0x02, 0x7f, 0x80]),
+        // A held one, with an orphan that no grant brings back.
+        log(work, most - 1, &[0x01, 0x00, 0x80]),
+        // A running one: 12 while the last quantum is open, then 13.
+        log(
+            work,
+            most - 2,
+            &[0x01, 0x01, 0x02, 0x81, 0x00, 0x01, 0x81, 0x00],
+        ),
+        // One that finishes in its last quantum: 11.
+        log(&[], most - 3, &[work, work, work, &[0x00, 0x01]].concat()),
+    ]
 }
 
 /// Every shape with every way to grant, and every shape with the fewest and

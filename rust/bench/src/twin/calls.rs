@@ -4,7 +4,7 @@ use super::{Job, Numbers, Tables, SIZES, WORKERS};
 
 /// The largest power of R that is at most 64, for R = 2 to 7.
 const TOP_DESIRES: [u8; 6] = [64, 27, 64, 25, 36, 49];
-const MOST_QUANTA: u16 = 65_535;
+const MOST_QUANTA: u16 = 4_096;
 
 impl Job {
     /// A grant of any number of workers; refused with 11 to 14.

@@ -1,9 +1,8 @@
 //! Whole cases: an input of the program, and the same plan and log apart.
 
 use super::damage::{damaged, damaged_twice, flipped};
-use super::graph::{graph, Shape};
 use super::logs::{blind_log, guided_log, marathon_log, style};
-use super::plans::{sound_draft, Draft};
+use super::plans::{marathon_draft, sound_draft, Draft};
 use super::random::Random;
 use crate::job::Job;
 use crate::program::{split_input, MOST_INPUT};
@@ -39,7 +38,7 @@ enum Kind {
     Cut,
     /// An input about as long as it may be.
     Full,
-    /// More quanta than may begin.
+    /// Every quantum that may begin, and calls after the last one.
     Marathon,
     /// Random bytes.
     Noise,
@@ -57,7 +56,7 @@ pub fn cases(seed: u64) -> impl Iterator<Item = Case> {
 /// Long cases come rarely and at fixed places, the others at random.
 fn kind(random: &mut Random, index: usize) -> Kind {
     match (index % 256, random.below(16)) {
-        (200, _) => Kind::Marathon,
+        (8 | 72 | 136 | 200, _) => Kind::Marathon,
         (50 | 100, _) => Kind::Full,
         (_, 0 | 1) => Kind::Damaged,
         (_, 2) => Kind::Blind,
@@ -89,16 +88,6 @@ fn case(random: &mut Random, index: usize) -> Case {
         sheet: sheet(random),
         buffer: *random.pick(&[0, 1, 127, 128, 129, 160]).unwrap_or(&128),
     }
-}
-
-/// Large enough that the first part of the log does not finish the job.
-fn marathon_draft(random: &mut Random) -> Draft {
-    let count = random.between(100, 400);
-    let mut draft = Draft::of_graph(&graph(random, Shape::Layered { width: 30 }, count));
-    draft.responsiveness = random.between(2, 7) as u64;
-    draft.utilization = random.between(1, 30) as u64;
-    draft.quantum_length = 1;
-    draft
 }
 
 fn damaged_plan(random: &mut Random, draft: &Draft) -> Vec<u8> {

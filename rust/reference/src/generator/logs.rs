@@ -2,7 +2,7 @@
 //! a blind log is random bytes.
 
 use super::random::Random;
-use crate::job::Job;
+use crate::job::{Job, MOST_QUANTA};
 use crate::log::Entry;
 
 /// How many workers are granted, given the desire.
@@ -132,9 +132,16 @@ impl Writer {
         let _ = Entry::Tick(choices).apply(&mut self.job);
     }
 
-    /// Writes calls of a style until the job is finished or the budget spent.
+    /// Whether the job takes no call any more.
+    fn at_the_end(&self) -> bool {
+        let last = self.job.quanta_begun() >= MOST_QUANTA;
+        self.job.is_finished() || last && self.job.open_quantum().is_none()
+    }
+
+    /// Writes calls of a style until the job takes no more or the budget is
+    /// spent.
     pub fn follow(&mut self, random: &mut Random, style: &Style) {
-        while self.bytes.len() < style.budget && !self.job.is_finished() {
+        while self.bytes.len() < style.budget && !self.at_the_end() {
             if random.chance(style.stray) {
                 self.stray(random);
             } else if self.job.open_quantum().is_some() {
@@ -207,6 +214,35 @@ impl Writer {
         }
     }
 
+    /// Ticks until no quantum is open.
+    fn close(&mut self, random: &mut Random) {
+        while self.job.open_quantum().is_some() && !self.job.is_finished() {
+            let choices = self.choices(random, Choices::Any);
+            self.tick(&choices);
+        }
+    }
+
+    /// Writes quanta of at most that many workers until so many have begun.
+    pub fn spend(&mut self, random: &mut Random, quanta: u32, workers: usize) {
+        self.close(random);
+        while self.job.quanta_begun() < quanta && !self.job.is_finished() {
+            self.grant(workers.min(self.job.desire()));
+            self.close(random);
+        }
+    }
+
+    /// Writes grants of all kinds and a tick, which no quantum is left for.
+    fn after_the_last(&mut self, random: &mut Random) {
+        for _ in 0..random.between(1, 3) {
+            let desire = self.job.desire();
+            for count in [0, desire, desire + 1, 127] {
+                self.grant(count);
+            }
+            let choices = self.choices(random, Choices::Any);
+            self.tick(&choices);
+        }
+    }
+
     /// Writes the ending.
     pub fn end(&mut self, random: &mut Random, ending: Ending) {
         match ending {
@@ -249,30 +285,25 @@ pub fn blind_log(random: &mut Random, length: usize) -> Vec<u8> {
     (0..length).map(|_| byte(random)).collect()
 }
 
-/// A log with more quanta than may begin: the job works for a while and is
-/// then held, or is never begun, in quanta of 0 workers. The quantum length
-/// should be 1.
+/// A log that spends every quantum that may begin. The job works for a while
+/// and is held, or is never begun, in quanta of 0 workers; it may have workers
+/// in the last few. Then come calls that find no quantum left.
 pub fn marathon_log(random: &mut Random, job: Job) -> Vec<u8> {
     let mut writer = Writer::new(job);
-    let grants = *random
-        .pick(&[Grants::Late, Grants::Pauses])
-        .unwrap_or(&Grants::Late);
     let style = Style {
-        grants,
+        grants: *random
+            .pick(&[Grants::Late, Grants::Pauses])
+            .unwrap_or(&Grants::Late),
         choices: Choices::Any,
         stray: 4,
         budget: random.below(90),
-        ending: Ending::Late,
+        ending: *random.pick(&ENDINGS).unwrap_or(&Ending::Late),
     };
     writer.follow(random, &style);
-    if writer.job.open_quantum().is_some() {
-        let choices = writer.choices(random, Choices::Any);
-        writer.tick(&choices);
-    }
-    for _ in 0..65_536 {
-        writer.grant(0);
-        writer.tick(&[]);
-    }
+    let (last, workers) = (random.below(3) as u32, random.between(1, 4));
+    writer.spend(random, MOST_QUANTA - last, 0);
+    writer.spend(random, MOST_QUANTA, workers);
+    writer.after_the_last(random);
     writer.end(random, style.ending);
     writer.bytes
 }

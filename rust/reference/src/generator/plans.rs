@@ -83,6 +83,17 @@ pub fn wide_draft(random: &mut Random) -> Draft {
     draft
 }
 
+/// Short quanta, and more tasks than a few of them work: for a log that spends
+/// every quantum that may begin.
+pub fn marathon_draft(random: &mut Random) -> Draft {
+    let count = random.between(100, 400);
+    let mut draft = Draft::of_graph(&graph(random, Shape::Layered { width: 30 }, count));
+    draft.responsiveness = random.between(2, 7) as u64;
+    draft.utilization = random.between(1, 30) as u64;
+    draft.quantum_length = *random.pick(&[1, 1, 1, 2, 3]).unwrap_or(&1);
+    draft
+}
+
 /// Mostly small, at times up to the most there can be.
 fn task_count(random: &mut Random) -> usize {
     match random.below(16) {

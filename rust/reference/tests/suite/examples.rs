@@ -1,4 +1,7 @@
-//! Document 01's worked examples 1 to 10.
+//! Document 01's worked examples 1 to 10, and the shipped ones.
+
+use std::fs;
+use std::path::Path;
 
 use reference::generator::plans::Draft;
 use reference::{is_efficient, next_desire, program_output, run_log, Refusal, Status};
@@ -7,6 +10,26 @@ use super::{hex, input, job, plan_refusal, PLAN_A};
 
 fn printed(plan: &str, log: &str) -> String {
     program_output(&input(&hex(plan), &hex(log)))
+}
+
+/// Every `examples/NAME.in` gives what `NAME.out` has.
+#[test]
+fn shipped_examples() {
+    let examples = Path::new(env!("CARGO_MANIFEST_DIR")).join("../../examples");
+    let mut tried = 0;
+    for entry in fs::read_dir(examples).expect("the examples") {
+        let file = entry.expect("an example").path();
+        if file
+            .extension()
+            .map_or(false, |extension| extension == "in")
+        {
+            let input = fs::read(&file).expect("an input");
+            let output = fs::read_to_string(file.with_extension("out")).expect("an output");
+            assert_eq!(program_output(&input), output, "{}", file.display());
+            tried += 1;
+        }
+    }
+    assert!(tried > 20, "{tried} examples");
 }
 
 #[test]

@@ -39,6 +39,11 @@ fn everything_is_reached() {
     for refusal in Refusal::ALL {
         assert!(coverage.refusal(refusal) > 0, "never refused {refusal}");
     }
+    // 13 is met by inputs that the program takes
+    let program = cases(2).take(300).map(|case| case.input);
+    let mut taken = Coverage::default();
+    program.for_each(|input| taken.cover_input(&input));
+    assert!(taken.refusal(Refusal::QuantaExhausted) > 0);
     for (branch, name) in BRANCHES {
         assert!(coverage.branch(branch) > 0, "never reached {name}");
     }

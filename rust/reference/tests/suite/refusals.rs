@@ -88,13 +88,20 @@ fn call_questions_in_order() {
     assert!(job.open_quantum().is_some());
 }
 
+/// Request U4, in its own numbers.
 #[test]
-fn no_more_than_65535_quanta() {
+fn thirteen_with_4096_quanta_begun() {
     let mut job = job(&hex("15 40 00 04 00 00 00 00"));
-    let log: Vec<u8> = [0x00, 0x80].repeat(65_535);
+    let log: Vec<u8> = [0x00, 0x80].repeat(4_095);
     assert_eq!(run_log(&mut job, &log).refused, 0);
-    assert_eq!((job.quanta_begun(), job.desire()), (65_535, 1));
-    refused(&mut job, 13, |j| j.grant(99));
+    assert_eq!((job.quanta_begun(), job.desire()), (4_095, 1));
+    refused(&mut job, 14, |j| j.grant(2));
+    assert!(job.grant(0).is_ok());
+    refused(&mut job, 12, |j| j.grant(0));
+    assert!(job.tick(&[]).is_ok());
+    for workers in [0, 1, 2, 99] {
+        refused(&mut job, 13, |j| j.grant(workers));
+    }
     refused(&mut job, 15, |j| j.tick(&[]));
 }
 

@@ -2,19 +2,15 @@
 
 use reference::coverage::{Coverage, BRANCHES};
 use reference::stored::{stored_cases, stored_set, KEPT_SEED};
-use reference::{program_output, read_plan, split_input, Entries, Refusal};
+use reference::{program_output, read_plan, run_log_with, split_input};
+use reference::{Entries, Job, Refusal, Status, MOST_QUANTA};
 
 /// The kept set, which the crate `vectors` runs, and what it must write.
 const KEPT: &[u8] = include_bytes!("../../../../crates/vectors/stdin");
 const WRITTEN: &str = include_str!("../../../../crates/vectors/stdout");
 
-/// No input can reach 13, whose log has 131,070 bytes or more; 19 and 20 are
-/// not asked by the program.
-const NOT_THE_PROGRAMS: [Refusal; 3] = [
-    Refusal::QuantaExhausted,
-    Refusal::WordingMissing,
-    Refusal::BufferTooSmall,
-];
+/// 19 and 20 are not asked by the program.
+const NOT_THE_PROGRAMS: [Refusal; 2] = [Refusal::WordingMissing, Refusal::BufferTooSmall];
 
 /// The kept set's cases.
 fn kept() -> Vec<(&'static [u8], &'static [u8])> {
@@ -67,6 +63,31 @@ fn kept_set_has_the_smallest_and_the_largest() {
     for count in [1, 2, 1_024] {
         assert!(counts.contains(&count), "no plan of {count} tasks");
     }
+}
+
+/// What a case's job has begun and shows at the end, and how many of its grants
+/// met 13; nothing where the plan is refused.
+fn at_the_limit(input: &[u8]) -> Option<(u32, Status, usize)> {
+    let (plan, log) = split_input(input).ok()?;
+    let (mut job, mut met) = (Job::accept(plan).ok()?, 0);
+    run_log_with(&mut job, log, |_, _, answer| {
+        met += usize::from(matches!(answer, Err(Refusal::QuantaExhausted)));
+    });
+    Some((job.quanta_begun(), job.status(), met))
+}
+
+#[test]
+fn kept_set_has_jobs_on_both_sides_of_the_last_quantum() {
+    let jobs: Vec<_> = kept()
+        .into_iter()
+        .filter_map(|(input, _)| at_the_limit(input))
+        .filter(|&(begun, _, _)| begun == MOST_QUANTA)
+        .collect();
+    for status in [Status::Fresh, Status::Running, Status::Held] {
+        let met = jobs.iter().any(|&(_, s, met)| s == status && met > 0);
+        assert!(met, "no job of status {status:?} meets 13");
+    }
+    assert!(jobs.contains(&(MOST_QUANTA, Status::Finished, 0)));
 }
 
 /// How many whole entries a log has before a broken one; nothing where none
