@@ -2,19 +2,20 @@
 -- with it.
 -- Assumes nothing.
 use mathlib.Core.Path.{_≡_, refl}
-use mathlib.Core.Bool.{Bool, true, false, cond, not}
+use mathlib.Core.Bool.{Bool, true, false, cond}
 use mathlib.Core.List.{List}
 use Prim.Native.Nat.{ℕ, _≤_, _<_}
 use native.Mathlib.Omega.{arith}
-use lib.Dec.{leb, ltb, eqb}
+use lib.Dec.{ltb}
 use lib.ListN.{length}
 use borrow.Author.Tests.{ltb-true, ltb-false, leb-true, eqb-true, not-true}
 use Rattle.model.specs.Tests.{every}
-use Rattle.model.specs.Questions.{Answer, accepted, refused, first-no}
+use Rattle.model.specs.Questions.{accepted, refused}
 use Rattle.model.specs.Plan.{Plan}
 use Rattle.model.specs.Machine.{State, allotment, finished, Quantum, idle, opened, no-quantum-open, ticks-of, quantum-limit}
 use Rattle.model.specs.Machine.{grant-questions, tick-questions, grants, ticks, call-answer, tick, ticked, closes, closed, cycles}
 use Rattle.lists.proofs.Tests.{true-is-not-false}
+use Rattle.lists.proofs.Questions.{ask-accepted, ask-passes, ask-refuses, none-refuses}
 
 -- ---- accepted calls
 
@@ -30,11 +31,6 @@ pub record TickAccepted (choices : List ℕ) (s : State) : Type 0 where
   pub one-each : length choices ≡ allotment s
   pub below-allotment : every (λ choice. ltb choice (allotment s)) choices ≡ true
 
--- a question that does not refuse
-asked : (b : Bool) (rest : Answer) (n : ℕ) → cond b rest (refused n) ≡ accepted → (b ≡ true) × (rest ≡ accepted)
-asked true rest n h = (refl, h)
-asked false rest n h = let z : _≡_ {A = ℕ} 0 1 = cc in absurd (omega arith)
-
 is-idle : (q : Quantum) → no-quantum-open q ≡ true → q ≡ idle
 is-idle idle h = refl
 is-idle (opened k) h = absurd (true-is-not-false h refl)
@@ -44,12 +40,12 @@ is-opened idle h = absurd (true-is-not-false refl h)
 is-opened (opened k) h = refl
 
 pub grant-accepted : (g : ℕ) (s : State) → call-answer (grants g) s ≡ accepted → GrantAccepted g s
-unfolding call-answer grant-questions first-no
+unfolding call-answer grant-questions
 grant-accepted g s h =
-    let first = asked (not (finished (s .execution))) _ 11 h in
-    let second = asked (no-quantum-open (s .quantum)) _ 12 (first .1) in
-    let third = asked (ltb (s .begun) quantum-limit) _ 13 (second .1) in
-    let fourth = asked (leb g (s .desire)) _ 14 (third .1) in
+    let first = ask-accepted _ _ _ h in
+    let second = ask-accepted _ _ _ (first .1) in
+    let third = ask-accepted _ _ _ (second .1) in
+    let fourth = ask-accepted _ _ _ (third .1) in
     record {
       unfinished = not-true (finished (s .execution)) (first .0);
       idle-quantum = is-idle (s .quantum) (second .0);
@@ -58,12 +54,12 @@ grant-accepted g s h =
     }
 
 pub tick-accepted : (choices : List ℕ) (s : State) → call-answer (ticks choices) s ≡ accepted → TickAccepted choices s
-unfolding call-answer tick-questions first-no
+unfolding call-answer tick-questions
 tick-accepted choices s h =
-    let first = asked (not (finished (s .execution))) _ 11 h in
-    let second = asked (not (no-quantum-open (s .quantum))) _ 15 (first .1) in
-    let third = asked (eqb (length choices) (allotment s)) _ 16 (second .1) in
-    let fourth = asked (every (λ choice. ltb choice (allotment s)) choices) _ 17 (third .1) in
+    let first = ask-accepted _ _ _ h in
+    let second = ask-accepted _ _ _ (first .1) in
+    let third = ask-accepted _ _ _ (second .1) in
+    let fourth = ask-accepted _ _ _ (third .1) in
     record {
       unfinished = not-true (finished (s .execution)) (first .0);
       open-quantum = is-opened (s .quantum) (not-true (no-quantum-open (s .quantum)) (second .0));
@@ -73,30 +69,17 @@ tick-accepted choices s h =
 
 -- ---- a grant refused with 13
 
--- a question that passes a refusal of another number on
-passed : (b : Bool) (rest : Answer) (n m : ℕ) → (n ≡ m → ⊥) → cond b rest (refused n) ≡ refused m → (b ≡ true) × (rest ≡ refused m)
-passed true rest n m other h = (refl, h)
-passed false rest n m other h = absurd (other cc)
-
--- .. and the one that refuses, before a last question of another number
-refuses : (b c : Bool) (n m : ℕ) → (n ≡ m → ⊥) → cond b (cond c accepted (refused n)) (refused m) ≡ refused m → b ≡ false
-refuses true true n m other h = let z : _≡_ {A = ℕ} 0 1 = cc in absurd (omega arith)
-refuses true false n m other h = absurd (other cc)
-refuses false c n m other h = refl
-
 pub record GrantSpent (s : State) : Type 0 where
   pub idle-quantum : s .quantum ≡ idle
   pub no-more-quanta : quantum-limit ≤ s .begun
 
 pub grant-spent : (g : ℕ) (s : State) → call-answer (grants g) s ≡ refused 13 → GrantSpent s
-unfolding call-answer grant-questions first-no
+unfolding call-answer grant-questions
 grant-spent g s h =
-    let first = passed (not (finished (s .execution))) _ 11 13 (λ e. omega arith) h in
-    let second = passed (no-quantum-open (s .quantum)) _ 12 13 (λ e. omega arith) (first .1) in
-    record {
-      idle-quantum = is-idle (s .quantum) (second .0);
-      no-more-quanta = ltb-false (s .begun) quantum-limit (refuses _ (leb g (s .desire)) 14 13 (λ e. omega arith) (second .1));
-    }
+    let first = ask-passes _ _ _ _ (λ e. omega arith) h in
+    let second = ask-passes _ _ _ _ (λ e. omega arith) (first .1) in
+    let third = ask-refuses _ _ _ (λ answer. none-refuses 13 (ask-passes _ _ _ _ (λ e. omega arith) answer .1)) (second .1) in
+    record { idle-quantum = is-idle (s .quantum) (second .0); no-more-quanta = ltb-false (s .begun) quantum-limit third }
 
 -- ---- a tick, closing or not
 

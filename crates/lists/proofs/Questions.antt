@@ -39,6 +39,24 @@ unfolding first-no
 ask-accepted true n qs h = (refl, h)
 ask-accepted false n qs h = let z : _≡_ {A = ℕ} 0 1 = cc in absurd (omega arith)
 
+-- a question first, and a refusal: one of another number is that of the others, and the question holds
+pub ask-passes : (b : Bool) (n m : ℕ) (qs : List Question) → (n ≡ m → ⊥) → first-no (ask b n ∷ qs) ≡ refused m →
+    (b ≡ true) × (first-no qs ≡ refused m)
+unfolding first-no
+ask-passes true n m qs other h = (refl, h)
+ask-passes false n m qs other h = absurd (other cc)
+
+-- .. and one of its own number, which the others never give, is its own: it does not hold
+pub ask-refuses : (b : Bool) (n : ℕ) (qs : List Question) → (first-no qs ≡ refused n → ⊥) → first-no (ask b n ∷ qs) ≡ refused n → b ≡ false
+unfolding first-no
+ask-refuses true n qs never h = absurd (never h)
+ask-refuses false n qs never h = refl
+
+-- no question, no refusal
+pub none-refuses : (n : ℕ) → first-no [] ≡ refused n → ⊥
+unfolding first-no
+none-refuses n h = let z : _≡_ {A = ℕ} 0 1 = cc in omega arith
+
 -- of two questions: both hold; the first does not; the second does not
 pub two-accepted : {a b : Bool} (m n : ℕ) → a ≡ true → b ≡ true → first-no (ask a m ∷ ask b n ∷ []) ≡ accepted
 unfolding first-no

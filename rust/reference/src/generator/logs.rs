@@ -223,7 +223,7 @@ impl Writer {
     }
 
     /// Writes quanta of at most that many workers until so many have begun.
-    pub fn spend(&mut self, random: &mut Random, quanta: u32, workers: usize) {
+    fn spend(&mut self, random: &mut Random, quanta: u32, workers: usize) {
         self.close(random);
         while self.job.quanta_begun() < quanta && !self.job.is_finished() {
             self.grant(workers.min(self.job.desire()));
