@@ -2,9 +2,9 @@
 use mathlib.Core.Path.{_≡_}
 use mathlib.Core.List.{List, [], _∷_}
 use Prim.Native.Nat.{ℕ}
-use lib.ListN.{length}
 use Rattle.model.specs.Questions.{Answer, accepted, refused, by-answer}
-use Rattle.model.specs.Counters.{counters-answer, put-at-start}
+use Rattle.model.specs.Counters.{spaced, counters-answer, put-at-start}
+use Rattle.model.specs.Digits.{line-size}
 use Rattle.status.specs.Number.{status-number}
 use Rattle.counters.specs.declared.Counters.{Counters}
 use Rattle.counters.specs.declared.LineAnswer.{LineAnswer}
@@ -37,9 +37,9 @@ abbrev pub line-length : LineAnswer → ℕ
 line-length (Written size) = size
 line-length TooSmall = 0
 
--- this line was to be written at a buffer's start: the answer, how many bytes the line has, and the buffer afterwards; refused, no line,
--- and the buffer as it came
-pub record WritesLine (line buffer buffer′ : List ℕ) (r : LineAnswer) : Type 0 where
+-- the line of these ten numbers was to be written at a buffer's start: the answer, how many bytes the line has, which is the ten counts of
+-- their digits plus 10, and the buffer afterwards; refused, no line, and the buffer as it came
+pub record WritesLine (ten buffer buffer′ : List ℕ) (r : LineAnswer) : Type 0 where
   pub answered : line-answer r ≡ counters-answer buffer
-  pub sized : line-length r ≡ by-answer (counters-answer buffer) (length line) 0
-  pub bytes : buffer′ ≡ by-answer (counters-answer buffer) (put-at-start line buffer) buffer
+  pub sized : line-length r ≡ by-answer (counters-answer buffer) (line-size ten) 0
+  pub bytes : buffer′ ≡ by-answer (counters-answer buffer) (put-at-start (spaced ten) buffer) buffer

@@ -1,9 +1,10 @@
 // The counters line (document 01: count line), written straight into a lent buffer. Document 01, "Day log and label"; the
-// definitions are model's specs/Counters.antt.
+// definitions are model's specs/Counters.antt, and of its length specs/Digits.antt.
 ghost use mathlib.Core.Path.{_≡_};
-ghost use Prim.Native.Nat.{_≤_, _<_};
+ghost use Prim.Native.Nat.{_≤_};
 ghost use lib.ListN.{length};
 ghost use Rattle.model.specs.Counters.{spaced, put-at-start};
+ghost use Rattle.model.specs.Digits.{line-size};
 ghost use Rattle.counters.specs.Line.{numbers-of, WritesLine};
 use status::Status;
 
@@ -29,26 +30,6 @@ pub enum LineAnswer {
     TooSmall,
 }
 
-// Puts the ten numbers at the buffer's start, one space between and byte 10 after, and answers how many bytes that takes. Without a
-// loop: each number's size then has its own branches, which are foreseen better.
-fn put_numbers(numbers: [u64; 10], buffer: &mut [u8]) -> usize
-    requires { ⌜ length numbers ≡ 10 ⌝ }
-    requires { ⌜ length (spaced numbers) ≤ length (now buffer) ⌝ }
-    ensures { λ r. ⌜ r ≡ length (spaced numbers) ⌝ }
-    ensures { λ _. ⌜ now (buffer .exit) ≡ put-at-start (spaced numbers) (now (buffer .entry)) ⌝ }
-{
-    let mut at = digits::put_field(buffer, 0, numbers[0], 32);
-    at = digits::put_field(buffer, at, numbers[1], 32);
-    at = digits::put_field(buffer, at, numbers[2], 32);
-    at = digits::put_field(buffer, at, numbers[3], 32);
-    at = digits::put_field(buffer, at, numbers[4], 32);
-    at = digits::put_field(buffer, at, numbers[5], 32);
-    at = digits::put_field(buffer, at, numbers[6], 32);
-    at = digits::put_field(buffer, at, numbers[7], 32);
-    at = digits::put_field(buffer, at, numbers[8], 32);
-    digits::put_field(buffer, at, numbers[9], 10)
-}
-
 // The ten numbers, in the line's order.
 pub fn numbers(counters: Counters) -> [u64; 10]
     ensures { λ r. ⌜ r ≡ numbers-of counters ⌝ }
@@ -68,12 +49,32 @@ pub fn numbers(counters: Counters) -> [u64; 10]
     ]
 }
 
+// Puts the ten numbers at the buffer's start, each straight to its place, with one space between and byte 10 after, and answers how many
+// bytes that takes.
+fn put_numbers(counters: Counters, buffer: &mut [u8]) -> usize
+    requires { ⌜ line-size (numbers-of counters) ≤ length (now buffer) ⌝ }
+    ensures { λ r. ⌜ r ≡ line-size (numbers-of counters) ⌝ }
+    ensures { λ _. ⌜ now (buffer .exit) ≡ put-at-start (spaced (numbers-of counters)) (now (buffer .entry)) ⌝ }
+{
+    let status = counters.status;
+    let mut at = digits::put_field(buffer, 0, status::number_of(status) as u64, 32);
+    at = digits::put_field(buffer, at, counters.worked as u64, 32);
+    at = digits::put_field(buffer, at, counters.tasks as u64, 32);
+    at = digits::put_field(buffer, at, counters.desire as u64, 32);
+    at = digits::put_field(buffer, at, counters.allotment as u64, 32);
+    at = digits::put_field(buffer, at, counters.work, 32);
+    at = digits::put_field(buffer, at, counters.mug, 32);
+    at = digits::put_field(buffer, at, counters.steal, 32);
+    at = digits::put_field(buffer, at, counters.successes, 32);
+    digits::put_field(buffer, at, counters.refusals, 10)
+}
+
 // Writes the counters line at the start of a buffer of 128 bytes or more. Bytes after the line stay; a smaller buffer stays as it is.
 pub fn write_line(counters: Counters, buffer: &mut [u8]) -> LineAnswer
-    ensures { λ r. ⌜ WritesLine (spaced (numbers-of counters)) (now (buffer .entry)) (now (buffer .exit)) r ⌝ }
+    ensures { λ r. ⌜ WritesLine (numbers-of counters) (now (buffer .entry)) (now (buffer .exit)) r ⌝ }
 {
     if buffer.len() < 128 {
         return LineAnswer::TooSmall;
     }
-    LineAnswer::Written(put_numbers(numbers(counters), buffer))
+    LineAnswer::Written(put_numbers(counters, buffer))
 }

@@ -1,4 +1,4 @@
--- Put: bytes put one after the other. Decimal: how many digits a number has. Digits: its digits, put from the last to the first.
-pub mod Put
+-- Stores: bytes stored one after the other. Decimal: how many digits a number has. Spelling: its digits, put first to last.
+pub mod Stores
 pub mod Decimal
-pub mod Digits
+pub mod Spelling

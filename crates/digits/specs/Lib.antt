@@ -1,2 +1,2 @@
--- Put: bytes put at a place of a buffer.
-pub mod Put
+-- Spelling: what is put into a buffer for a number.
+pub mod Spelling

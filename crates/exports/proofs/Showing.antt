@@ -5,13 +5,12 @@ use mathlib.Core.List.{List}
 use Prim.Native.Nat.{ℕ}
 use Rattle.model.specs.Questions.{answer-number}
 use Rattle.model.specs.Label.{Stretch, label, label-answer}
-use Rattle.model.specs.Counters.{spaced, buffer-after}
+use Rattle.model.specs.Counters.{counters-line, buffer-after}
 use Rattle.label.specs.declared.Found.{Found}
 use Rattle.label.specs.Found.{found-answer, found-stretch}
 use Rattle.counters.specs.declared.Counters.{Counters}
 use Rattle.counters.specs.declared.LineAnswer.{LineAnswer}
 use Rattle.counters.specs.Line.{numbers-of, line-answer, line-length, WritesLine}
-use Rattle.counters.proofs.Line.{model-line}
 use Rattle.report.specs.Shown.{CountersOf}
 use Rattle.exports.specs.Promises.{ShowsStatus, ShowsLine, ShowsWording}
 
@@ -31,11 +30,11 @@ wording-shown words sheet number found shown answered stretch =
 
 -- what writing the line answered
 pub line-shown : {words : List ℕ} {refusals : ℕ} {k : Counters} → CountersOf words refusals k → {buffer buffer′ : List ℕ}
-    {answer : LineAnswer} → WritesLine (spaced (numbers-of k)) buffer buffer′ answer →
+    {answer : LineAnswer} → WritesLine (numbers-of k) buffer buffer′ answer →
     ShowsLine words refusals buffer buffer′ (line-length answer) (answer-number (line-answer answer))
-unfolding buffer-after
+unfolding counters-line buffer-after
 line-shown shown written =
     record {
       answered = ap answer-number (written .answered);
-      right = λ memory job. let its-line = model-line _ _ _ _ (shown .right memory job) written in (its-line .sized, its-line .bytes);
+      right = λ memory job. let its-line = rw (shown .right memory job) at written in (its-line .sized, its-line .bytes);
     }

@@ -3,11 +3,11 @@
 use mathlib.Core.Path.{_≡_}
 use mathlib.Core.List.{List}
 use Prim.Native.Nat.{ℕ}
-use lib.ListN.{length}
 use Rattle.model.specs.Questions.{answer-number, by-answer}
 use Rattle.model.specs.Machine.{Call, call-answer, status}
 use Rattle.model.specs.Label.{label, label-answer}
-use Rattle.model.specs.Counters.{counters, counters-line, counters-answer, buffer-after}
+use Rattle.model.specs.Counters.{counters, counters-answer, buffer-after}
+use Rattle.model.specs.Digits.{line-size}
 use Rattle.memory.specs.declared.Job.{Job}
 use Rattle.memory.specs.Jobs.{lent, job-plan, job-state}
 use Rattle.engine.specs.Reached.{IsJob}
@@ -24,13 +24,13 @@ pub record ShowsCounters (words : List ℕ) (refusals : ℕ) (numbers′ : List 
   pub right : (memory : List ℕ) → IsJob (lent memory words) →
       numbers′ ≡ counters (job-plan (lent memory words)) (job-state (lent memory words)) refusals
 
--- the number, the line's size and the buffer after the call
+-- the number, the line's size, which is the ten counts of its numbers' digits plus 10, and the buffer after the call
 pub record ShowsLine (words : List ℕ) (refusals : ℕ) (buffer buffer′ : List ℕ) (size r : ℕ) : Type 0 where
   pub answered : r ≡ answer-number (counters-answer buffer)
   pub right : (memory : List ℕ) → IsJob (lent memory words) →
       let plan = job-plan (lent memory words) in
       let state = job-state (lent memory words) in
-      (size ≡ by-answer (counters-answer buffer) (length (counters-line plan state refusals)) 0)
+      (size ≡ by-answer (counters-answer buffer) (line-size (counters plan state refusals)) 0)
       × (buffer′ ≡ buffer-after plan state refusals buffer)
 
 -- the number, and where the wording starts in the sheet and how many bytes it has

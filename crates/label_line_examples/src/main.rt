@@ -123,29 +123,37 @@ fn buffers() {
     show_line(example(Status::Held), &mut other);
 }
 
-// A number put at a place of ten bytes: the next place, and the bytes.
-fn show_number(at: usize, n: u64) {
-    let mut buffer = [46u8; 10];
-    let next = digits::put_decimal(&mut buffer, at, n);
+// A number put from the second of 23 bytes on, with a bar after it: the next place, and the bytes.
+fn show_number(n: u64) {
+    let mut buffer = [46u8; 23];
+    let next = digits::put_field(&mut buffer, 1, n, 124);
     number(next as u64);
     word(b" [");
     word(&buffer);
     word(b"]\n");
 }
 
-fn numbers() {
-    show_number(0, 0);
-    show_number(9, 9);
-    show_number(9, 10);
-    show_number(8, 10);
+fn short_numbers() {
+    show_number(0);
+    show_number(9);
+    show_number(10);
+    show_number(99);
+    show_number(100);
+    show_number(999);
+    show_number(1000);
+    show_number(9999);
+    show_number(10000);
 }
 
-fn numbers_at_the_end() {
-    show_number(10, 0);
-    show_number(11, 0);
-    show_number(18446744073709551615, 7);
-    show_number(0, 9999999999);
-    show_number(0, 10000000000);
+fn long_numbers() {
+    show_number(99999);
+    show_number(100000);
+    show_number(99999999);
+    show_number(100000000);
+    show_number(10200304050);
+    show_number(9999999999999999999);
+    show_number(10000000000000000000);
+    show_number(18446744073709551615);
 }
 
 fn main() {
@@ -155,6 +163,6 @@ fn main() {
     largest_status();
     small_buffers();
     buffers();
-    numbers();
-    numbers_at_the_end();
+    short_numbers();
+    long_numbers();
 }

@@ -20,7 +20,9 @@ use Rattle.model.specs.Log.{run-log, run-calls, log-answer}
 use Rattle.model.specs.Label
 use Rattle.model.specs.Label.{label, label-answer, bytes-of}
 use Rattle.model.specs.Counters
-use Rattle.model.specs.Counters.{decimal, counters, buffer-after, counters-answer}
+use Rattle.model.specs.Counters.{decimal, counters, counters-line, buffer-after, counters-answer}
+use Rattle.model.specs.Digits
+use Rattle.model.specs.Digits.{digit-count, line-size}
 use Rattle.model.specs.Program
 use Rattle.model.specs.Program.{program}
 
@@ -394,6 +396,14 @@ log-rows =
     ∷ row (flatMap decimal (0 ∷ 9 ∷ 10 ∷ 109 ∷ 18446744073709551615 ∷ []))
     (48 ∷ 57 ∷ 49 ∷ 48 ∷ 49 ∷ 48 ∷ 57 ∷ 49 ∷ 56 ∷ 52 ∷ 52 ∷ 54 ∷ 55 ∷ 52 ∷ 52 ∷ 48 ∷ 55 ∷ 51 ∷ 55 ∷ 48 ∷ 57 ∷ 53 ∷ 53 ∷ 49 ∷ 54 ∷ 49
     ∷ 53 ∷ [])
+    -- U2: "1 for 0, else the least count whose power of ten is above the number"
+    ∷ row (map digit-count
+    (0 ∷ 1 ∷ 9 ∷ 10 ∷ 99 ∷ 100 ∷ 9999 ∷ 10000 ∷ 9999999999999999999 ∷ 10000000000000000000 ∷ 18446744073709551615 ∷ []))
+    (1 ∷ 1 ∷ 1 ∷ 2 ∷ 2 ∷ 3 ∷ 4 ∷ 5 ∷ 19 ∷ 20 ∷ 20 ∷ [])
+    -- "the line is as long as the ten counts plus 10": spaces and byte 10 together, no more; the longest line of numbers of such widths
+    ∷ row (line-size (counters (plan-of plan-a) (fresh (plan-of plan-a)) 100)
+    ∷ length (counters-line (plan-of plan-a) (fresh (plan-of plan-a)) 100)
+    ∷ line-size (3 ∷ 65535 ∷ 65535 ∷ 255 ∷ 255 ∷ replicate 5 18446744073709551615) ∷ []) (22 ∷ 22 ∷ 127 ∷ [])
     -- bytes after the line do not change
     ∷ row (buffer-after (plan-of plan-a) (fresh (plan-of plan-a)) 0 (replicate 130 7))
     (48 ∷ 32 ∷ 48 ∷ 32 ∷ 52 ∷ 32 ∷ 49 ∷ 32 ∷ 48 ∷ 32 ∷ 48 ∷ 32 ∷ 48 ∷ 32 ∷ 48 ∷ 32 ∷ 48 ∷ 32 ∷ 48 ∷ 10 ∷ replicate 110 7)
@@ -443,7 +453,8 @@ unfolding same row-holds failing task plan-bytes diamond one-task seven easy-sev
     Machine.call-answer Machine.step Machine.status History.beginning History.history-grant History.history-tick History.history-step
     History.run-from History.run History.tasks-in Log.entries-up-to Log.entries Log.run-calls Log.run-log Log.log-answer
     Label.lines-from Label.lines Label.label-answer Label.label Counters.decimal-up-to Counters.decimal Counters.spaced
-    Counters.counters Counters.counters-line Counters.counters-answer Counters.buffer-after Program.plan-length Program.plan-part
+    Counters.counters Counters.counters-line Counters.counters-answer Counters.buffer-after Digits.first-above Digits.digit-count
+    Program.plan-length Program.plan-part
     Program.log-part Program.input-questions Program.refused-line Program.log-output Program.program
 table = refl
 

@@ -7,6 +7,7 @@ use native.Mathlib.Omega.{arith}
 use native.Mathlib.Nat.{zero-add}
 use lib.Dec.{lit<}
 use lib.ListN.{length, length-append}
+use lib.Seq.{sets, length-sets}
 use Rattle.model.specs.Questions.{accepted}
 use Rattle.model.specs.Plan.{Plan, plan-of, plan-answer}
 use Rattle.model.specs.Machine.{State, fresh}
@@ -18,8 +19,7 @@ use Rattle.engine.specs.Reached.{IsJob}
 use Rattle.engine.specs.Moves.{Accepts}
 use Rattle.counters.specs.declared.Counters.{Counters}
 use Rattle.counters.specs.Line.{numbers-of}
-use Rattle.digits.specs.Put.{put}
-use Rattle.digits.proofs.Put.{length-put, put-append, put-start}
+use Rattle.digits.proofs.Stores.{sets-append, sets-start}
 use Rattle.report.specs.Shown.{CountersOf}
 use Rattle.log.specs.declared.LogAnswer.{LogAnswer}
 use Rattle.log.specs.declared.LogAnswer.the-variants.{Whole, BrokenEntry}
@@ -41,7 +41,7 @@ module _ {words : List ℕ} {refusals : ℕ} (answer : LogAnswer) {k : Counters}
   same-length : length b' ≡ length b
   same-length =
       let x = spaced (numbers-of k) in
-      ap length (line .bytes ∙ sym (put-start x b)) ∙ length-put 0 x b (omega (arith, line .short, line .long))
+      ap length (line .bytes ∙ sym (sets-start x b (omega (arith, line .short, line .long)))) ∙ length-sets b 0 x
 
   pub whole-printed : answer ≡ Whole → PrintsRan words refusals answer (record { bytes = b'; size = size })
   whole-printed whole =
@@ -61,24 +61,24 @@ module _ {words : List ℕ} {refusals : ℕ} (answer : LogAnswer) {k : Counters}
   refusal-room at n short byte = omega (arith, refused-short n byte, same-length)
 
   pub broken-printed : (b₂ : List ℕ) (end : ℕ) → answer ≡ BrokenEntry → end ≡ size + length (refused-line 18)
-      → b₂ ≡ put size (refused-line 18) b' → PrintsRan words refusals answer (record { bytes = b₂; size = end })
+      → b₂ ≡ sets b' size (refused-line 18) → PrintsRan words refusals answer (record { bytes = b₂; size = end })
   broken-printed b₂ end broken end-is b₂-is =
       let x = spaced (numbers-of k) in
       let y = refused-line 18 in
       let behind = refusal-room size 18 (line .short) (lit< tt) in
       let both : b₂ ≡ put-at-start (x ++ y) b =
       b₂-is
-      ∙ ap (λ (n : ℕ). put n y b') (line .long ∙ sym (zero-add (length x)))
-      ∙ ap (put (0 + length x) y) (line .bytes ∙ sym (put-start x b))
-      ∙ put-append 0 x b (omega (arith, line .short, line .long)) y
-      ∙ put-start (x ++ y) b in
+      ∙ ap (λ (n : ℕ). sets b' n y) (line .long ∙ sym (zero-add (length x)))
+      ∙ ap (λ (l : List ℕ). sets l (0 + length x) y) (line .bytes ∙ sym (sets-start x b (omega (arith, line .short, line .long))))
+      ∙ sets-append b 0 x y
+      ∙ sets-start (x ++ y) b (omega (arith, behind, same-length, line .long, length-append x y)) in
       record {
         right = λ memory job.
             record {
               written =
                   read-back (x ++ y) b b₂ end (omega (arith, line .long, length-append x y)) both
                   ∙ text _ _ BrokenEntry (of .right memory job) broken;
-              fits = omega (arith, behind, ap length b₂-is, length-put size y b' behind);
+              fits = omega (arith, behind, ap length b₂-is, length-sets b' size y);
             };
       }
 

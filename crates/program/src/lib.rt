@@ -3,9 +3,9 @@ use memory::Words;
 ghost use mathlib.Core.Path.{_≡_};
 ghost use Prim.Native.Nat.{_+_, _≤_};
 ghost use lib.ListN.{length};
+ghost use lib.Seq.{sets};
 ghost use Rattle.model.specs.Plan.{plan-of, plan-answer};
 ghost use Rattle.model.specs.Program.{refused-line, log-output, output-by, program};
-ghost use Rattle.digits.specs.Put.{put};
 ghost use Rattle.engine.specs.Reached.{JobWords};
 ghost use Rattle.program.specs.Output.{Prints, LinePut, PrintsRan};
 use counters::Counters;
@@ -27,7 +27,7 @@ fn wide(byte: u8) -> usize
 // Puts bytes at a place.
 fn put_bytes(out: &mut [u8], at: usize, bytes: &[u8])
     requires { ⌜ at + length (now bytes) ≤ length (now out) ⌝ }
-    ensures { λ _. ⌜ now (out .exit) ≡ put at (now (bytes .entry)) (now (out .entry)) ⌝ }
+    ensures { λ _. ⌜ now (out .exit) ≡ sets (now (out .entry)) at (now (bytes .entry)) ⌝ }
 {
     let mut i = 0;
     while i < bytes.len() {
@@ -41,13 +41,11 @@ fn put_bytes(out: &mut [u8], at: usize, bytes: &[u8])
 fn put_refusal(out: &mut [u8], at: usize, number: u8) -> usize
     requires { ⌜ at + length (refused-line number) ≤ length (now out) ⌝ }
     ensures { λ r. ⌜ r ≡ at + length (refused-line number) ⌝ }
-    ensures { λ _. ⌜ now (out .exit) ≡ put at (refused-line number) (now (out .entry)) ⌝ }
+    ensures { λ _. ⌜ now (out .exit) ≡ sets (now (out .entry)) at (refused-line number) ⌝ }
 {
     let word = [114u8, 101, 102, 117, 115, 101, 100, 32];
     put_bytes(out, at, &word);
-    let end = digits::put_decimal(out, at + 8, number as u64);
-    out[end] = 10;
-    end + 1
+    digits::put_field(out, at + 8, number as u64, 10)
 }
 
 // A refusal and nothing else.

@@ -5,7 +5,7 @@ ghost use Rattle.memory.specs.Jobs.{job-state};
 ghost use Rattle.engine.specs.Reached.{IsJob, JobWords};
 ghost use Rattle.label.specs.Wording.{IsWording};
 ghost use Rattle.counters.specs.Line.{WritesLine};
-ghost use Rattle.report.specs.Shown.{CountersOf, line-of};
+ghost use Rattle.report.specs.Shown.{CountersOf, shown-numbers};
 use counters::Counters;
 use counters::LineAnswer;
 use memory::Job;
@@ -38,7 +38,7 @@ pub fn counters_of(words: &Words, refusals: u64) -> Counters
 // as it is.
 pub fn job_line(job: Job, refusals: u64, buffer: &mut [u8]) -> LineAnswer
     requires { ⌜ IsJob job ⌝ }
-    ensures { λ r. ⌜ WritesLine (line-of job refusals) (now (buffer .entry)) (now (buffer .exit)) r ⌝ }
+    ensures { λ r. ⌜ WritesLine (shown-numbers job refusals) (now (buffer .entry)) (now (buffer .exit)) r ⌝ }
 {
     let words = job.words;
     let shown = counters_of(&words, refusals);

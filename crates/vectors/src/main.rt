@@ -6,17 +6,18 @@ use libc::STDOUT_FILENO;
 use stored_set::SetTally;
 use stored_set::Verdict;
 
+// A number and a space.
 fn write_number(number: u64) {
-    let mut digits = [0u8; 20];
-    let size = digits::put_decimal(&mut digits, 0, number);
+    let mut digits = [0u8; 21];
+    let size = digits::put_field(&mut digits, 0, number, 32);
     io::write_all(STDOUT_FILENO, &digits[..size]);
 }
 
 fn write_tally(tally: SetTally) {
     write_number(tally.cases);
-    io::write_all(STDOUT_FILENO, b" cases ran, ");
+    io::write_all(STDOUT_FILENO, b"cases ran, ");
     write_number(tally.same);
-    io::write_all(STDOUT_FILENO, b" as the second implementation says");
+    io::write_all(STDOUT_FILENO, b"as the second implementation says");
 }
 
 fn write_verdict(verdict: Verdict) {

@@ -2,7 +2,7 @@
 use native.Mathlib.Omega.{arith}
 use lib.ListN.{length-set}
 use borrow.Author.Needs.{needs}
-use Rattle.digits.proofs.Digits.{pair-stored}
+use Rattle.digits.proofs.Spelling.{pair-stored}
 use Rattle.digits.proofs.put_pair.Statement.{statement}
 use Rattle.digits.proofs.put_pair.Tie as tie
 
@@ -10,7 +10,7 @@ slice-write-buffer-2 : tie.Need-slice-write-buffer-2
 slice-write-buffer-2 c = rw length-set (omega arith)
 
 returns : tie.Need-returns
-returns c = pair-stored _ _ (c .pre .0) (omega arith) _ _ (c .pre .1)
+returns c = pair-stored (c .args .n) (c .pre .0) (omega arith) (c .args .at) (c .args .buffer .now)
 
 pub put-pair-spec : {M : Type 1} → statement M
 put-pair-spec =

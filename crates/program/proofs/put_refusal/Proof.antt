@@ -1,48 +1,41 @@
--- `program::put_refusal` meets its contract: the word, the digits and byte 10, one after the other. Assumes nothing.
+-- `program::put_refusal` meets its contract: the word, and then the number with byte 10. Assumes nothing.
+use mathlib.Core.Path.{ap, _∙_}
+use mathlib.Core.List.{List}
+use Prim.Native.Nat.{ℕ, _+_}
 use native.Mathlib.Omega.{arith}
+use lib.Seq.{sets}
 use borrow.Author.Needs.{needs}
-use Rattle.program.proofs.Printing.{word-room, RefusalPut, refusal-put}
+use Rattle.digits.specs.Spelling.{field}
+use Rattle.program.proofs.Printing.{refused-long, refusal-put}
 use Rattle.program.proofs.put_refusal.Statement.{statement}
 use Rattle.program.proofs.put_refusal.Tie as tie
 
--- what is known where the word was put, and at the entry
-abbrev word-put : tie.After-slice-known3 → tie.After-put-bytes
-word-put c = c .before .before .before .before .before .before
-
-abbrev start : tie.After-slice-known3 → tie.Start
-start c = word-put c .before .before .before .before
-
-put-there : (c : tie.After-slice-known3) →
-    RefusalPut (start c .args .at) (start c .args .number) (start c .args .out .now) (c .before .before .put-decimal .last .0)
-    (c .before .before .put-decimal .result)
-put-there c =
-    let decimal-put = c .before .before .put-decimal .ensures in
-    refusal-put _ _ _ (start c .pre) _ _ _ (word-put c .put-bytes .ensures)
-    (decimal-put .0) (decimal-put .1)
-
 put-bytes-requires : tie.Need-put-bytes-requires
-put-bytes-requires c κs =
-    let s = c .before .before .before in
-    word-room (s .args .at) (s .args .number) (s .args .out .now) (s .pre)
+put-bytes-requires c κs = omega (arith, refused-long (c .before .before .before .args .number))
 
-add-put-decimal : tie.Need-add-put-decimal
-add-put-decimal c =
+add-put-field : tie.Need-add-put-field
+add-put-field c =
     let s = c .before .before .before .before .before .before .before in
-    omega (arith, word-room (s .args .at) (s .args .number) (s .args .out .now) (s .pre), s .good .0)
+    omega (arith, s .pre, s .good .0, refused-long (s .args .number))
 
-slice-write-out : tie.Need-slice-write-out
-slice-write-out c = put-there c .inside
-
-add-result : tie.Need-add-result
-add-result c = omega (arith, put-there c .after, start c .pre, start c .good .0)
-
-same-length : tie.Need-same-length
-same-length c = put-there c .same-length _
+put-field-requires : tie.Need-put-field-requires
+put-field-requires c κs =
+    let put = c .before .before .before in
+    let s = put .before .before .before .before in
+    omega (arith, s .pre, put .put-bytes .kept .0, refused-long (s .args .number))
 
 returns : tie.Need-returns
-returns c = (put-there c .after, put-there c .bytes)
+returns c =
+    let put = c .before .before in
+    let word = put .before .before .before .before in
+    let s = word .before .before .before .before .args in (
+      omega (arith, put .put-field .ensures .0, refused-long (s .number)),
+      put .put-field .ensures .1
+          ∙ ap (λ (l : List ℕ). sets l (s .at + 8) (field (s .number) 10)) (word .put-bytes .ensures)
+          ∙ refusal-put (s .at) (s .number) (s .out .now),
+    )
 
 pub put-refusal-spec : {M : Type 1} → statement M
 put-refusal-spec =
     tie.close
-    (tie.spec (λ c. search needs) put-bytes-requires add-put-decimal (λ c κs. search needs) slice-write-out add-result same-length returns)
+    (tie.spec (λ c. search needs) put-bytes-requires add-put-field put-field-requires (λ c. search needs) returns)

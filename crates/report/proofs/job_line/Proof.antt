@@ -1,7 +1,6 @@
--- `report::job_line` meets its contract: the line of the record's own numbers is model's line of its state.
+-- `report::job_line` meets its contract: the record's own ten numbers are model's of its state.
 -- Assumes nothing.
 use borrow.Author.Needs.{needs}
-use Rattle.counters.proofs.Line.{model-line}
 use Rattle.report.proofs.job_line.Statement.{statement}
 use Rattle.report.proofs.job_line.Tie as tie
 
@@ -12,7 +11,7 @@ returns : tie.Need-returns
 returns c =
     let wrote = c .before .before in
     let counted = wrote .before .before in
-    model-line _ _ _ _ (counted .counters-of .ensures .right _ (counted .before .before .before .before .pre)) (wrote .write-line .ensures)
+    rw (counted .counters-of .ensures .right _ (counted .before .before .before .before .pre)) at (wrote .write-line .ensures)
 
 pub job-line-spec : {M : Type 1} → statement M
 job-line-spec = tie.close (tie.spec counters-of-requires (λ c κs. search needs) (λ c. search needs) returns)
