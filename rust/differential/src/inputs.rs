@@ -126,6 +126,13 @@ pub fn buffer(random: &mut Random) -> Vec<u8> {
 
 /// A count of refused calls with any number of digits.
 pub fn refused_count(random: &mut Random) -> u64 {
-    let narrow = random.below(64);
-    random.next_u64() >> narrow
+    match random.below(8) {
+        0 => 0,
+        1 => u64::MAX,
+        2..=4 => 10_u64.pow(random.below(20) as u32) - random.below(2) as u64,
+        _ => {
+            let narrow = random.below(64);
+            random.next_u64() >> narrow
+        }
+    }
 }

@@ -5,7 +5,7 @@ use std::time::Duration;
 use reference::generator::logs::marathon_log;
 use reference::generator::plans::{marathon_draft, sound_draft, Draft};
 use reference::generator::Random;
-use reference::{Entries, Rules, MOST_QUANTA};
+use reference::{DigitCount, Entries, Rules, MOST_QUANTA};
 
 use crate::accept::fresh;
 use crate::compare::{self, Part};
@@ -146,7 +146,10 @@ fn with_limit(most_quanta: u32, seed: u64) -> [Option<Part>; 2] {
     let plan = marathon_draft(random);
     let mut pair = pair(&plan, &plan);
     let log = marathon_log(random, pair.reference.clone());
-    pair.reference = pair.reference.with_rules(Rules { most_quanta });
+    pair.reference = pair.reference.with_rules(Rules {
+        most_quanta,
+        ..Rules::default()
+    });
     let totals = &mut Totals::default();
     let mut calls = pair.clone();
     let mut entries = Entries::new(&log).filter_map(Result::ok);
@@ -162,6 +165,54 @@ fn another_limit_of_quanta_is_found() {
         for limit in [MOST_QUANTA - 1, MOST_QUANTA + 1, 65_535] {
             assert_eq!(with_limit(limit, seed), [Some("answer"), Some("log")]);
         }
+    }
+}
+
+/// How many of 2,000 counters lines differ where the reference counts digits so.
+fn lines_with(digits: DigitCount) -> usize {
+    let random = &mut Random::new(7);
+    let mut pair = pair(&fork(), &fork());
+    pair.reference = pair.reference.with_rules(Rules {
+        digits,
+        ..Rules::default()
+    });
+    let totals = &mut Totals::default();
+    let mut walk = Walk {
+        pair,
+        random,
+        totals,
+    };
+    let found = (0..2_000).filter_map(|_| walk.show_line().err());
+    found
+        .inspect(|difference| assert_eq!(difference.part, "counters line"))
+        .count()
+}
+
+#[test]
+fn another_digit_count_is_found() {
+    let right = DigitCount::default();
+    let wrong = [
+        // 0 has no digits.
+        DigitCount {
+            of_zero: 0,
+            ..right
+        },
+        // A power of ten has one digit fewer; one less than it has one more.
+        DigitCount {
+            above_by: 0,
+            ..right
+        },
+        DigitCount {
+            above_by: 2,
+            ..right
+        },
+        // The largest number has 19.
+        DigitCount { most: 19, ..right },
+    ];
+    assert_eq!(lines_with(right), 0);
+    for digits in wrong {
+        let found = lines_with(digits);
+        assert!(found > 100, "{found} with {digits:?}");
     }
 }
 
@@ -234,6 +285,7 @@ fn a_run_reaches_every_refusal() {
     assert!(totals.log_refusals[11..=17].iter().all(|&count| count > 0));
     assert!(totals.responsiveness[2..].iter().all(|&count| count > 0));
     assert!(totals.ticks[0] > 0 && totals.ticks[64] > 0);
+    assert!(totals.digits[1..].iter().all(|&count| count > 0));
 }
 
 #[test]

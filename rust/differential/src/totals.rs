@@ -2,6 +2,8 @@
 
 use std::fmt;
 
+use reference::DigitCount;
+
 use crate::pair::{Call, Reference};
 
 /// Counts of a run.
@@ -36,6 +38,8 @@ pub struct Totals {
     pub branches: u64,
     pub wordings: u64,
     pub lines: u64,
+    /// The last numbers of those lines, by their digits; place 0 is not used.
+    pub digits: [u64; 21],
 }
 
 impl Default for Totals {
@@ -57,6 +61,7 @@ impl Default for Totals {
             branches: 0,
             wordings: 0,
             lines: 0,
+            digits: [0; 21],
         }
     }
 }
@@ -113,6 +118,12 @@ impl Totals {
         }
     }
 
+    /// Counts a counters line by the digits of its last number.
+    pub fn count_line(&mut self, refused: u64) {
+        self.lines += 1;
+        add(&mut self.digits, DigitCount::default().of(refused));
+    }
+
     /// Counts a log that was run whole and its answer.
     pub fn count_log(&mut self, number: u8) {
         self.logs += 1;
@@ -146,7 +157,12 @@ impl fmt::Display for Totals {
             }
         }
         writeln!(out, "{:>12}  wordings compared", self.wordings)?;
-        writeln!(out, "{:>12}  counters lines compared", self.lines)?;
+        writeln!(
+            out,
+            "{:>12}  counters lines compared, by the last number's digits: {:?}",
+            self.lines,
+            &self.digits[1..]
+        )?;
         writeln!(
             out,
             "{:>12}  logs run whole, with {} calls",

@@ -92,7 +92,7 @@ impl Walk<'_> {
         Err(self.pair.difference("wording", detail))
     }
 
-    fn show_line(&mut self) -> Result<(), Difference> {
+    pub fn show_line(&mut self) -> Result<(), Difference> {
         let (proved, reference) = (&self.pair.proved, &self.pair.reference);
         let refused = inputs::refused_count(self.random);
         let mut buffer = inputs::buffer(self.random);
@@ -100,7 +100,7 @@ impl Walk<'_> {
         let written = proved.write_line(refused, &mut buffer);
         let expected = counters_line(reference, refused, &mut other);
         let number = proved_number(&written);
-        self.totals.lines += 1;
+        self.totals.count_line(refused);
         self.totals.count_refusal(number);
         let same_text =
             counters_text(reference, refused).strip_suffix('\n') == Some(&proved.line(refused));

@@ -3,6 +3,7 @@
 use std::collections::VecDeque;
 use std::sync::Arc;
 
+use crate::counters::DigitCount;
 use crate::plan::{read_plan, Plan};
 use crate::quantum::{classify, is_efficient, next_desire, QuantumEnd};
 use crate::refusal::{ask, Refusal};
@@ -17,12 +18,15 @@ pub const MOST_QUANTA: u32 = 4_096;
 pub struct Rules {
     /// No more quanta than this begin.
     pub most_quanta: u32,
+    /// How the digits of the counters line's numbers are counted.
+    pub digits: DigitCount,
 }
 
 impl Default for Rules {
     fn default() -> Rules {
         Rules {
             most_quanta: MOST_QUANTA,
+            digits: DigitCount::default(),
         }
     }
 }
@@ -149,6 +153,11 @@ impl Job {
     /// The same job, which follows these rules from now on.
     pub fn with_rules(self, rules: Rules) -> Job {
         Job { rules, ..self }
+    }
+
+    /// The rules that the job keeps.
+    pub fn rules(&self) -> Rules {
+        self.rules
     }
 
     /// The job's plan.

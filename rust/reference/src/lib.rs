@@ -24,7 +24,7 @@ pub mod quantum;
 pub mod refusal;
 pub mod stored;
 
-pub use counters::{counters_line, counters_text};
+pub use counters::{counters_line, counters_text, line_size, ten_numbers, DigitCount};
 pub use job::{Cycle, GrantReport, Job, OpenQuantum, Rules, Status, TickReport, MOST_QUANTA};
 pub use label::wording;
 pub use log::{run_log, run_log_with, Entries, Entry, LogOutcome, Report};

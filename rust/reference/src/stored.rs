@@ -19,7 +19,7 @@ pub const KEPT_SEED: u64 = 1;
 const SMALL: usize = 400;
 
 /// Generated cases are taken until the set has this size.
-const ENOUGH: usize = 253_000;
+const ENOUGH: usize = 275_400;
 
 const SHAPES: [Shape; 5] = [
     Shape::Chain,
@@ -37,6 +37,7 @@ pub fn stored_set(seed: u64) -> Vec<u8> {
         bare(),
         edges(),
         spent(),
+        counted(),
         shaped(&mut random),
         wide(&mut random),
     ];
@@ -118,6 +119,16 @@ fn spent() -> Vec<Vec<u8>> {
         // One that finishes in its last quantum: 11.
         log(&[], most - 3, &[work, work, work, &[0x00, 0x01]].concat()),
     ]
+}
+
+/// Jobs with so many refused calls that the counters line's last number is the
+/// first or the last with its digits.
+fn counted() -> Vec<Vec<u8>> {
+    let plan = draft(&mut Random::new(0), Shape::Chain, 1, 2).bytes();
+    let above_desire = 0x7f;
+    let counts = [9, 10, 99, 100, 999, 1_000, 9_999, 10_000];
+    let log = |count: &usize| input(&plan, &vec![above_desire; *count]);
+    counts.iter().map(log).collect()
 }
 
 /// Every shape with every way to grant, and every shape with the fewest and

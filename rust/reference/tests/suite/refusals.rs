@@ -1,7 +1,10 @@
 //! The questions in their order, and what a refusal leaves as it was.
 
 use reference::generator::plans::{Draft, DraftTask};
-use reference::{counters_line, next_desire, program_output, run_log, wording};
+use reference::{
+    counters_line, counters_text, line_size, next_desire, program_output, run_log, wording,
+    DigitCount,
+};
 use reference::{Job, Refusal, Status};
 
 use super::{hex, input, job, plan_refusal, PLAN_A};
@@ -139,6 +142,23 @@ fn counters_buffer() {
     assert_eq!(counters_line(&job, 3, &mut buffer), Ok(20));
     assert_eq!(buffer[..20], *b"0 0 4 1 0 0 0 0 0 3\n");
     assert_eq!(buffer[20..], [7; 108]);
+}
+
+#[test]
+fn digit_counts() {
+    let digits = DigitCount::default();
+    assert_eq!(digits.of(0), 1);
+    for count in 1..20 {
+        let power = 10_u64.pow(count);
+        assert_eq!(digits.of(power - 1), count as usize);
+        assert_eq!(digits.of(power), count as usize + 1);
+    }
+    assert_eq!(digits.of(u64::MAX), 20);
+    let job = job(&hex(PLAN_A));
+    for refused in [0, 9, 10, 99_999, 100_000, u64::MAX] {
+        let text = counters_text(&job, refused);
+        assert_eq!(line_size(&job, refused), text.len());
+    }
 }
 
 #[test]

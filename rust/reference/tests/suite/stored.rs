@@ -118,3 +118,19 @@ fn a_cut_set_has_no_cases() {
     ends.retain(|&end| end < set.len());
     assert_eq!(whole.collect::<Vec<_>>(), ends);
 }
+
+#[test]
+fn kept_set_has_numbers_on_both_sides_of_a_power_of_ten() {
+    let last_number = |output: &[u8]| {
+        let line = std::str::from_utf8(output).ok()?.lines().next()?;
+        line.rsplit(' ').next()?.parse::<u64>().ok()
+    };
+    let lasts: Vec<u64> = kept()
+        .iter()
+        .filter(|(_, output)| !output.starts_with(b"refused"))
+        .filter_map(|(_, output)| last_number(output))
+        .collect();
+    for power in [10, 100, 1_000, 10_000] {
+        assert!(lasts.contains(&(power - 1)) && lasts.contains(&power));
+    }
+}
