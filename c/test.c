@@ -328,11 +328,16 @@ static void test_lines(void)
     static const size_t sizes[] = {0, 1, 20, 127, 128, 129, 5000};
     plan_bytes plan;
     jirvaldo_job *job;
+    uint64_t power = 1;
     size_t i, size = 99;
     plan_a(&plan);
     job = accepted(&plan);
     for (i = 0; i < 7; i++) check_buffer(job, sizes[i], "0 0 4 1 0 0 0 0 0 18446744073709551615\n");
     CHECK(jirvaldo_line(job, 0, NULL, 0, &size) == JIRVALDO_BUFFER_SMALL && size == 0);
+    for (i = 0; i < 20; i++, power *= 10) {
+        check_shown(job, power - 1);
+        check_shown(job, power);
+    }
     release_job(job);
 }
 

@@ -183,8 +183,8 @@ static inline jirvaldo_numbers jirvaldo_counters(const jirvaldo_job *job, uint64
 }
 
 /* Writes the counters line: the ten numbers in decimal, a space between, byte 10 at the end. 0: the line stands at the buffer's start,
- * *line_size bytes with byte 10, and the bytes after it are as they came. 20: the buffer has fewer than 128 bytes; it is as it came, and
- * *line_size is 0. */
+ * *line_size bytes with byte 10, and the bytes after it are as they came; *line_size is how many digits the ten numbers have, one for a
+ * number that is 0, plus 10. 20: the buffer has fewer than 128 bytes; it is as it came, and *line_size is 0. */
 static inline unsigned jirvaldo_line(const jirvaldo_job *job, uint64_t refused_calls, uint8_t *buffer, size_t size, size_t *line_size)
 {
     uint8_t none = 0;

@@ -206,8 +206,8 @@ impl Job {
         Ok(&sheet[start..][..size])
     }
 
-    /// Writes the counters line, with the byte 10 that ends it, at the start of the buffer, and returns its size. Bytes after the line
-    /// stay.
+    /// Writes the counters line, with the byte 10 that ends it, at the start of the buffer, and returns its size: how many digits the ten
+    /// numbers have, one for a number that is 0, plus 10. Bytes after the line stay.
     ///
     /// # Errors
     /// [`SmallBuffer`](Refusal::SmallBuffer) (20) where the buffer has fewer than [`LINE_BUFFER`] bytes, also if the line would fit. The
@@ -220,6 +220,7 @@ impl Job {
     /// let mut buffer = [0; LINE_BUFFER];
     /// let size = job.write_line(0, &mut buffer)?;
     /// assert_eq!(&buffer[..size], b"0 0 1 1 0 0 0 0 0 0\n");
+    /// assert_eq!(size, 10 + 10);
     /// assert_eq!(job.write_line(0, &mut buffer[1..]), Err(Refusal::SmallBuffer));
     /// # Ok::<(), Refusal>(())
     /// ```

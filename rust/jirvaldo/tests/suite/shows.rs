@@ -71,6 +71,24 @@ fn buffers() {
 }
 
 #[test]
+fn line_sizes() {
+    let job = plan_a();
+    let mut buffer = [0; LINE_BUFFER];
+    let nine_of_one_digit = 9;
+    let mut size = |refused| job.write_line(refused, &mut buffer);
+    assert_eq!(size(0), Ok(nine_of_one_digit + 1 + 10));
+    for digits in 1..20 {
+        let power = 10_u64.pow(digits);
+        let digits = digits as usize;
+        assert_eq!(size(power - 1), Ok(nine_of_one_digit + digits + 10));
+        assert_eq!(size(power), Ok(nine_of_one_digit + digits + 1 + 10));
+        let text = format!("0 0 4 1 0 0 0 0 0 {power}");
+        assert_eq!(*job.line(power), *text);
+    }
+    assert_eq!(size(u64::MAX), Ok(nine_of_one_digit + 20 + 10));
+}
+
+#[test]
 fn lines_and_counters() {
     let mut job = plan_a();
     assert_eq!(job.run_log(&hex("01 81 00 81 00 00")).end, Ok(()));
