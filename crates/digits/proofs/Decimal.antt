@@ -12,7 +12,8 @@ use lib.Dec.{ltb}
 use lib.ListN.{length, length-append}
 use borrow.Author.Tests.{lt-ltb, le-ltb, ltb-true, ltb-false}
 use Rattle.model.specs.Counters.{decimal, decimal-up-to}
-use Rattle.model.specs.Digits.{first-above, digit-count, LeastAbove}
+use Rattle.model.specs.Digits.{first-above, digit-count}
+use Rattle.digits.specs.Counted.{Counted}
 use Rattle.digits.specs.Spelling.{digit, pair}
 
 -- ---- which digits
@@ -80,23 +81,30 @@ above (suc f) n h =
     (λ big. rw (more-long n big, add-one)
     (omega (arith, above f (n / 10) (omega arith), pow-succ' 10 (length (decimal (n / 10))))))
 
-least : (n : ℕ) → 0 < n → LeastAbove n (length (decimal n))
-least n positive = record { above = above n n (omega arith); least = no-lesser }
+-- so the digits are as many as is asked of a count
+spelt-counted : (n : ℕ) → Counted n (length (decimal n))
+spelt-counted n =
+    record {
+      of-zero = λ none. one-long n (omega arith);
+      above = λ positive. above n n (omega arith);
+      least = no-lesser;
+    }
   where
-    no-lesser : (other : ℕ) → n < 10 ^ other → length (decimal n) ≤ other
-    no-lesser zero h = absurd (omega arith)
-    no-lesser (suc k) h = at-most k n h
+    no-lesser : 0 < n → (other : ℕ) → n < 10 ^ other → length (decimal n) ≤ other
+    no-lesser positive zero h = absurd (omega arith)
+    no-lesser positive (suc k) h = at-most k n h
 
--- the search finds the least count, where it begins below it and goes as far
-found : (more count n d : ℕ) → LeastAbove n d → count ≤ d → d ≤ count + more → first-above more count n ≡ d
+-- of a number above 0 the search finds that count, where it begins below it and goes as far
+found : (more count n d : ℕ) → 0 < n → Counted n d → count ≤ d → d ≤ count + more → first-above more count n ≡ d
 unfolding first-above
-found zero count n d is from to = omega arith
-found (suc more) count n d is from to =
+found zero count n d positive is from to = omega arith
+found (suc more) count n d positive is from to =
     by-order n (10 ^ count)
-    (λ enough. rw (lt-ltb n (10 ^ count) enough) (omega (arith, is .least count enough)))
+    (λ enough. rw (lt-ltb n (10 ^ count) enough) (omega (arith, is .least positive count enough)))
     (λ short.
-    let before = by-order count d (λ less. less) (λ same. absurd (omega (arith, is .above, ap (λ (e : ℕ). 10 ^ e) (equal same)))) in
-    rw (le-ltb n (10 ^ count) short) (found more (suc count) n d is before (omega arith)))
+    let before = by-order count d (λ less. less)
+    (λ same. absurd (omega (arith, is .above positive, ap (λ (e : ℕ). 10 ^ e) (equal same)))) in
+    rw (le-ltb n (10 ^ count) short) (found more (suc count) n d positive is before (omega arith)))
   where
     equal : d ≤ count → count ≡ d
     equal same = omega arith
@@ -110,16 +118,13 @@ pub decimal-length : (n : ℕ) → length (decimal n) ≡ digit-count n
 unfolding digit-count
 decimal-length zero = one-long 0 (omega arith)
 decimal-length (suc m) =
-    let is = least (suc m) (omega arith) in
-    sym (found (suc m) 0 (suc m) _ is (omega arith) (omega (arith, is .least (suc m) (power-above (suc m)))))
+    let positive : 0 < suc m = omega arith in
+    let is = spelt-counted (suc m) in
+    sym (found (suc m) 0 (suc m) _ positive is (omega arith) (omega (arith, is .least positive (suc m) (power-above (suc m)))))
 
 -- "1 for 0, else the least count whose power of ten is above the number"
-pub count-of-zero : digit-count 0 ≡ 1
-unfolding digit-count
-count-of-zero = refl
-
-pub count-is-least : (n : ℕ) → 0 < n → LeastAbove n (digit-count n)
-count-is-least n positive = rw (← decimal-length n) (least n positive)
+pub digits-counted : (n : ℕ) → Counted n (digit-count n)
+digits-counted n = rw (← decimal-length n) (spelt-counted n)
 
 -- a number below a power of ten has no more digits than that power's exponent, 0 among them
 pub count-within : (k n : ℕ) → n < 10 ^ suc k → digit-count n ≤ suc k

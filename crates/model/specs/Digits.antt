@@ -1,27 +1,22 @@
 -- Request U2 of document 02, "Digits without the detour": how many digits a number has, and how long the counters line is.
 use mathlib.Core.Bool.{cond}
 use mathlib.Core.List.{List, [], _∷_}
-use Prim.Native.Nat.{ℕ, zero, suc, _+_, _^_, _≤_, _<_}
+use Prim.Native.Nat.{ℕ, zero, suc, _+_, _^_}
 use lib.Dec.{ltb}
 
--- the first count from `count` on whose power of ten is above n; `count` and up to `more` after it are tried
+-- the first count from `count` on whose power of ten is above n; so many as `more` are tried, and the next is taken without
 unfoldable pub first-above : ℕ → ℕ → ℕ → ℕ
 first-above zero count n = count
 first-above (suc more) count n =
     let later = first-above more (suc count) n in
     cond (ltb n (10 ^ count)) count later
 
--- "1 for 0, else the least count whose power of ten is above the number"; 10 ^ n is above n, so n are enough to try
+-- "1 for 0, else the least count whose power of ten is above the number"; 10 ^ n is above n, so the counts below n are enough to try
 unfoldable pub digit-count : ℕ → ℕ
 digit-count zero = 1
 digit-count (suc less) =
     let n = suc less in
     first-above n 0 n
-
--- the least count whose power of ten is above the number, said without a search: that power is above it, and no lesser one is
-pub record LeastAbove (n count : ℕ) : Type 0 where
-  pub above : n < 10 ^ count
-  pub least : (other : ℕ) → n < 10 ^ other → count ≤ other
 
 -- the counts of some numbers, added up
 abbrev pub digit-counts : List ℕ → ℕ

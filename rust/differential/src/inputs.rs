@@ -124,7 +124,7 @@ pub fn buffer(random: &mut Random) -> Vec<u8> {
     random.bytes(size)
 }
 
-/// A count of refused calls with any number of digits.
+/// A count of refused calls with any number of digits; often 0, the largest, a power of ten, or one below it.
 pub fn refused_count(random: &mut Random) -> u64 {
     match random.below(8) {
         0 => 0,

@@ -13,7 +13,7 @@ pub const LEAST_BUFFER: usize = 128;
 pub struct DigitCount {
     /// So many digits has 0.
     pub of_zero: usize,
-    /// So much more than the number is the least power that is above it.
+    /// A power is above a number where it is at least this much more.
     pub above_by: u64,
     /// No greater count is tried.
     pub most: usize,
