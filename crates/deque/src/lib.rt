@@ -65,14 +65,14 @@ pub fn ahead(memory: &Memory, front: u16, steps: u16) -> u16
     task
 }
 
-// How many tasks a steal takes from the back of a deque.
+// How many tasks a steal takes from the back of a deque: half of them, rounded down.
 fn stolen_count(size: u16) -> u16
     ensures { λ r. ⌜ r ≡ stolen-count size ⌝ }
 {
-    1
+    size / 2
 }
 
-// The back part of the victim's deque becomes the thief's.
+// The back half of the victim's deque becomes the thief's, in its order: the links stay as they are.
 pub fn rob(memory: &mut Memory, thief: usize, victim: usize)
     requires { ⌜ Robbable (parts (now memory)) thief victim ⌝ }
     ensures { λ _. ⌜ parts-after memory ≡ robbed (parts-before memory) thief victim ⌝ }

@@ -1,4 +1,5 @@
--- A worker's cycle by its four kinds, with what is known of the execution in each (`cycle-cases`); the allotment that a cycle keeps; and
+-- A worker's cycle by its four kinds, with what is known of the execution in each (`cycle-cases`), and which kind it is by what the worker
+-- sees (`works`, `mugs`, `robs`, `fails`); the allotment that a cycle keeps; and
 -- what every cycle keeps is kept by a tick's cycles (`cycles-keep`, and `cycles-made-keep` for what speaks of the cycles made too).
 -- Assumes nothing.
 use mathlib.Core.Path.{_≡_, refl, _∙_}
@@ -8,7 +9,7 @@ use Prim.Native.Nat.{ℕ, suc, _+_, _≤_, _<_}
 use native.Mathlib.Omega.{arith}
 use lib.Dec.{leb}
 use lib.ListN.{length, length-set}
-use borrow.Author.Tests.{leb-true, leb-false}
+use borrow.Author.Tests.{leb-true, leb-false, le-leb, lt-leb}
 use Rattle.model.specs.Plan.{Graph}
 use Rattle.model.specs.Machine.{Execution, deque-of, Cycle, works-on, mugs-deque, steals-from, steals-nothing, decided, performed, cycle-of}
 use Rattle.model.specs.Machine.{work-cycle, mug-cycle, successful-steal, failed-steal, cycle, cycles, cycles-made, finished}
@@ -40,6 +41,27 @@ module _ (graph : Graph) (w choice : ℕ) (e : Execution) (P : Cycle → Executi
   pub cycle-cases : P (cycle-of w choice e) (cycle graph w choice e)
   unfolding cycle cycle-of
   cycle-cases = by-deques (deque-of e w) (e .muggable) refl refl
+
+-- ---- which kind it is, by what the worker sees
+
+module _ (graph : Graph) (w choice : ℕ) (e : Execution) where
+  pub works : (t : ℕ) (rest : List ℕ) → deque-of e w ≡ t ∷ rest → cycle graph w choice e ≡ work-cycle graph w t e
+  unfolding cycle cycle-of
+  works t rest own = rw own
+
+  pub mugs : (oldest : List ℕ) (others : List (List ℕ)) → deque-of e w ≡ [] → e .muggable ≡ oldest ∷ others →
+      cycle graph w choice e ≡ mug-cycle w oldest e
+  unfolding cycle cycle-of
+  mugs oldest others own waiting = rw (own, waiting)
+
+  pub robs : deque-of e w ≡ [] → e .muggable ≡ [] → 2 ≤ length (deque-of e choice) →
+      cycle graph w choice e ≡ successful-steal w choice e
+  unfolding cycle cycle-of
+  robs own none many = rw (own, none, le-leb 2 (length (deque-of e choice)) many)
+
+  pub fails : deque-of e w ≡ [] → e .muggable ≡ [] → length (deque-of e choice) < 2 → cycle graph w choice e ≡ failed-steal e
+  unfolding cycle cycle-of
+  fails own none few = rw (own, none, lt-leb 2 (length (deque-of e choice)) few)
 
 -- ---- the allotment
 

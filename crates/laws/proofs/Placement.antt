@@ -5,7 +5,6 @@ use mathlib.Core.Path.{_≡_, refl, sym, ap, _∙_}
 use mathlib.Core.Bool.{Bool, true, false, cond, not, _&&_}
 use mathlib.Core.List.{List, [], _∷_, _++_, tail, List·Memᴰ, List·Memᴰ·head}
 use Prim.Native.Nat.{ℕ, suc, _+_, _-_, _≤_, _<_}
-use native.Mathlib.Nat.{not-suc-le-zero}
 use native.Mathlib.Omega.{arith}
 use lib.Dec.{eqb}
 use lib.ListN.{length, getD, set, length-set}
@@ -19,8 +18,8 @@ use Rattle.model.specs.Statements.{SoundGraph}
 use Rattle.laws.specs.Invariants.{occurrences, in-deques, waiting-work, Placed, Tallied}
 use Rattle.lists.proofs.Tests.{true-is-not-false, not-true-is-false, one-or-none, is-one, and-right}
 use Rattle.lists.proofs.Lists.{member-is, count-set-more}
-use Rattle.laws.proofs.Deques.{occurrences-append, occurrences-keep, occurs, no-member, in-deques-set, one-deque, filled-within}
-use Rattle.laws.proofs.Stealing.{left-then-taken}
+use Rattle.laws.proofs.Deques.{occurrences-append, occurrences-keep, occurs, no-member, in-deques-set, one-deque}
+use Rattle.laws.proofs.Stealing.{left-then-taken, apart, victim-within}
 use Rattle.laws.proofs.Readiness.{ready-elsewhere, ready-kept, not-ready, is-ready, above, inside, successor-once, Waits, waits}
 use Rattle.laws.proofs.Readiness.{is-waiting, not-waiting-worked, not-waiting-unready}
 use Rattle.laws.proofs.Cycles.{cycle-cases, cycles-keep}
@@ -196,7 +195,7 @@ module _ {graph : Graph} {e : Execution} (sound : SoundGraph graph) (placed : Pl
       record {
         flags = placed .flags;
         once = λ x.
-            let robbed = in-deques-set x (e .deques) choice left there in
+            let robbed = in-deques-set x (e .deques) choice left (victim-within e w choice own two) in
             let moved = in-deques-set x (set (e .deques) choice left) w taken (lt-length-set (e .deques) choice left here) in
             omega (
               arith,
@@ -216,14 +215,8 @@ module _ {graph : Graph} {e : Execution} (sound : SoundGraph graph) (placed : Pl
       taken : List ℕ
       taken = taken-by-steal (deque-of e choice)
 
-      there : choice < length (e .deques)
-      there = filled-within (e .deques) choice (omega arith)
-
-      apart : w ≡ choice → ⊥
-      apart q = not-suc-le-zero (rw (← q, own) at two)
-
       unrobbed : getD (set (e .deques) choice left) w [] ≡ getD (e .deques) w []
-      unrobbed = getD-set-other (e .deques) choice w left [] apart
+      unrobbed = getD-set-other (e .deques) choice w left [] (apart e w choice own two)
 
 pub cycle-placed : {graph : Graph} {e : Execution} → SoundGraph graph → Placed graph e → (w choice : ℕ) → w < length (e .deques) →
     Placed graph (cycle graph w choice e)

@@ -8,18 +8,17 @@ use Prim.Native.Nat.{ℕ, suc, _+_, _-_, _≤_, _<_}
 use native.Mathlib.Nat.{not-suc-le-zero}
 use native.Mathlib.Omega.{arith}
 use lib.Dec.{eqb}
-use lib.ListN.{length, getD, set}
-use lib.Seq.{getD-set-same, getD-set-other}
+use lib.ListN.{length}
 use borrow.Author.Tests.{eqb-true, eqb-false}
 use Rattle.model.specs.Plan.{Plan, Graph}
-use Rattle.model.specs.Machine.{Execution, deque-of, finished, work-cycle, mug-cycle, successful-steal, failed-steal, left-by-steal}
-use Rattle.model.specs.Machine.{taken-by-steal, cycle, cycles, Call}
+use Rattle.model.specs.Machine.{Execution, deque-of, finished, work-cycle, mug-cycle, successful-steal, failed-steal}
+use Rattle.model.specs.Machine.{cycle, cycles, Call}
 use Rattle.model.specs.History.{history-step, history-tick, run}
 use Rattle.model.specs.Statements.{SoundPlan, SoundGraph, Progress}
 use Rattle.laws.specs.Invariants.{occurrences, in-deques, Placed}
 use Rattle.lists.proofs.Lists.{first-unset}
 use Rattle.laws.proofs.Deques.{which-deque, filled-within}
-use Rattle.laws.proofs.Stealing.{left-filled}
+use Rattle.laws.proofs.Stealing.{left-filled, victim-after, others-after}
 use Rattle.laws.proofs.Readiness.{Waits, is-ready, above}
 use Rattle.laws.proofs.Placement.{waiting-stands}
 use Rattle.laws.proofs.Cycles.{cycle-cases, cycle-allotment}
@@ -61,24 +60,14 @@ data Did (w : ℕ) (e after : Execution) : Type 0 where
 -- a robbed deque keeps a task, and the thief's was empty
 steal-leaves : (e : Execution) (w choice : ℕ) → deque-of e w ≡ [] → 2 ≤ length (deque-of e choice) → (v : ℕ) → 1 ≤ length (deque-of e v) →
     1 ≤ length (deque-of (successful-steal w choice e) v)
-unfolding successful-steal
-steal-leaves e w choice own two v h =
-    rw (getD-set-other robbed w v (taken-by-steal (deque-of e choice)) [] not-thief) (go (eqb v choice) refl)
+steal-leaves e w choice own two v h = go (eqb v choice) refl
   where
-    left : List ℕ
-    left = left-by-steal (deque-of e choice)
-
-    robbed : List (List ℕ)
-    robbed = set (e .deques) choice left
-
     not-thief : v ≡ w → ⊥
     not-thief p = not-suc-le-zero (rw (p, own) at h)
 
-    go : (b : Bool) → eqb v choice ≡ b → 1 ≤ length (getD robbed v [])
-    go true p =
-        rw (eqb-true v choice p, getD-set-same (e .deques) choice left [] (filled-within (e .deques) choice (omega arith)))
-        (left-filled (deque-of e choice) two)
-    go false p = rw (getD-set-other (e .deques) choice v left [] (eqb-false v choice p)) h
+    go : (b : Bool) → eqb v choice ≡ b → 1 ≤ length (deque-of (successful-steal w choice e) v)
+    go true p = rw (eqb-true v choice p, victim-after e w choice own two) (left-filled (deque-of e choice) two)
+    go false p = rw (others-after e w choice own two v not-thief (eqb-false v choice p)) h
 
 did : (graph : Graph) (w choice : ℕ) (e : Execution) → Did w e (cycle graph w choice e)
 unfolding work-cycle mug-cycle failed-steal

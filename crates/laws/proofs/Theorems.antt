@@ -8,6 +8,7 @@ use Rattle.model.specs.Machine.{Call}
 use Rattle.model.specs.History.{run}
 use Rattle.model.specs.Statements.{SoundPlan, Progress, Demand3, MugBound, OneIsEfficient, DesireIsPower, OnceAndInOrder, FinishedExactly}
 use Rattle.model.specs.Statements.{StopsAtTop, EndsAsRecorded}
+use Rattle.model.specs.Thefts.{StealsHalf}
 use Rattle.laws.specs.Invariants.{Bounded}
 use Rattle.laws.specs.Reached.{Arranged, Measured, CountsFit, largest-granted}
 use Rattle.laws.specs.Spent.{SpentOnly}
@@ -24,6 +25,7 @@ use Rattle.laws.proofs.Progress as Progress
 use Rattle.laws.proofs.Order as Order
 use Rattle.laws.proofs.Histories as Histories
 use Rattle.laws.proofs.Meaning as Meaning
+use Rattle.laws.proofs.Thefts as Thefts
 
 module _ {plan : Plan} (sound : SoundPlan plan) (calls : List Call) where
   -- "While a job is unfinished, each tick with a worker granted does at least one work or mug tick."
@@ -107,3 +109,8 @@ module _ {plan : Plan} (sound : SoundPlan plan) (calls : List Call) where
   -- usage is 0 when a quantum opens, and grows by the work and mug cycles of each tick
   pub usage-means : UsageMeans plan (run plan calls)
   usage-means = Meaning.usage-means plan (run plan calls)
+
+  -- "A successful steal shall take the back half of the victim's line, rounded down, in its order, and it still needs two pieces there": in
+  -- every execution, so also between two workers' cycles of one tick
+  pub steals-half : StealsHalf (plan .graph)
+  steals-half = Thefts.steals-half (plan .graph)

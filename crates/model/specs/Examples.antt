@@ -12,7 +12,7 @@ use Rattle.model.specs.Plan.{Plan, plan-of, plan-answer, form-field, res
 use Rattle.model.specs.Plan.{task-count, count-field, first-field, second-field}
 use Rattle.model.specs.Machine
 use Rattle.model.specs.Machine.{State, Call, grants, ticks, call-answer, step, fresh, status, no-quantum-open, ticks-of}
-use Rattle.model.specs.Machine.{grant-questions, efficient, next-desire, top-desires, desire-at, most-workers}
+use Rattle.model.specs.Machine.{grant-questions, stolen-count, efficient, next-desire, top-desires, desire-at, most-workers}
 use Rattle.model.specs.History
 use Rattle.model.specs.History.{ClosedQuantum, CurrentQuantum, none, begun-with, run, work-order}
 use Rattle.model.specs.Log
@@ -94,6 +94,14 @@ ten : List ℕ
 ten =
     plan-bytes 2 1 1
     (task 2 1 2 ∷ task 2 3 4 ∷ task 1 7 0 ∷ task 2 5 6 ∷ task 1 7 0 ∷ task 1 8 0 ∷ task 1 8 0 ∷ task 1 9 0 ∷ task 1 9 0 ∷ task 0 0 0 ∷ [])
+
+-- thirteen tasks: of 0, 1, 3 and 5 each is followed by two, of which the first leads on; the joins 9 to 12 take up what was forked last first.
+-- A worker alone has 1, 2, then 3, 4, 2, then 5, 6, 4, 2, then 7, 8, 6, 4, 2 in its line
+thirteen : List ℕ
+thirteen =
+    plan-bytes 2 1 1
+    (task 2 1 2 ∷ task 2 3 4 ∷ task 1 12 0 ∷ task 2 5 6 ∷ task 1 11 0 ∷ task 2 7 8 ∷ task 1 10 0 ∷ task 1 9 0 ∷ task 1 9 0 ∷ task 1 10 0
+    ∷ task 1 11 0 ∷ task 1 12 0 ∷ task 0 0 0 ∷ [])
 
 -- N tasks in a chain
 link : ℕ → ℕ → List ℕ
@@ -215,6 +223,15 @@ history-shown bytes calls =
 -- the ten numbers after a second log on the record of a first
 shown-twice : List ℕ → List ℕ → List ℕ → List ℕ
 shown-twice bytes log more = shown-from bytes (run-log (plan-of bytes) log (fresh (plan-of bytes)) .state) more
+
+-- worker 1 robs worker 0 of a line of five
+half-of-five : List Call
+half-of-five = grants 1 ∷ ticks (0 ∷ []) ∷ grants 1 ∷ ticks (0 ∷ []) ∷ grants 1 ∷ ticks (0 ∷ []) ∷ grants 2 ∷ ticks (0 ∷ 0 ∷ []) ∷ []
+
+-- workers 1 and 2 rob worker 0, and worker 3 robs worker 1
+three-thieves : List Call
+three-thieves =
+    grants 1 ∷ ticks (0 ∷ []) ∷ grants 1 ∷ ticks (0 ∷ []) ∷ grants 2 ∷ ticks (0 ∷ 1 ∷ []) ∷ grants 4 ∷ ticks (0 ∷ 0 ∷ 0 ∷ 1 ∷ []) ∷ []
 
 statuses-from : Plan → State → List Call → List ℕ
 statuses-from plan s [] = status s ∷ []
@@ -339,6 +356,27 @@ tick-rows =
     ∷ row (quantum-kept (after-calls (one-task 1) (grants 1 ∷ ticks (0 ∷ []) ∷ []))) (1 ∷ 1 ∷ [])
     ∷ []
 
+-- request U1: a steal takes half of the line
+steal-rows : List Row
+steal-rows =
+    -- rounded down: 2 or 3 pieces give 1, 4 or 5 give 2
+    row (map stolen-count (2 ∷ 3 ∷ 4 ∷ 5 ∷ 6 ∷ 7 ∷ 1023 ∷ 1024 ∷ [])) (1 ∷ 1 ∷ 2 ∷ 2 ∷ 3 ∷ 3 ∷ 511 ∷ 512 ∷ [])
+    -- of the line 3, 4, 2 the thief has 2
+    ∷ row (placed thirteen (grants 1 ∷ ticks (0 ∷ []) ∷ grants 2 ∷ ticks (0 ∷ 0 ∷ []) ∷ [])) (2 ∷ 3 ∷ 4 ∷ 1 ∷ 2 ∷ [])
+    -- of 5, 6, 4, 2 the thief has 4, 2, in this order
+    ∷ row (placed thirteen (grants 1 ∷ ticks (0 ∷ []) ∷ grants 1 ∷ ticks (0 ∷ []) ∷ grants 2 ∷ ticks (0 ∷ 0 ∷ []) ∷ []))
+    (2 ∷ 5 ∷ 6 ∷ 2 ∷ 4 ∷ 2 ∷ [])
+    -- of 7, 8, 6, 4, 2 it has 4, 2, too
+    ∷ row (placed thirteen half-of-five) (3 ∷ 7 ∷ 8 ∷ 6 ∷ 2 ∷ 4 ∷ 2 ∷ [])
+    -- two pieces moved, and one success is counted; neither was worked in that tick
+    ∷ row (counters (plan-of thirteen) (after-calls thirteen half-of-five) 0) (1 ∷ 4 ∷ 13 ∷ 4 ∷ 2 ∷ 4 ∷ 0 ∷ 1 ∷ 1 ∷ 0 ∷ [])
+    -- the thief works what it took from the front on: 4, which leaves 2
+    ∷ row (placed thirteen (half-of-five ++ (grants 2 ∷ ticks (0 ∷ 0 ∷ []) ∷ []))) (2 ∷ 8 ∷ 6 ∷ 1 ∷ 2 ∷ [])
+    -- three thieves in one tick: the second takes half of what the first left, the third half of what the first took
+    ∷ row (placed thirteen three-thieves) (2 ∷ 7 ∷ 8 ∷ 1 ∷ 4 ∷ 1 ∷ 6 ∷ 1 ∷ 2 ∷ [])
+    ∷ row (counters (plan-of thirteen) (after-calls thirteen three-thieves) 0) (1 ∷ 4 ∷ 13 ∷ 8 ∷ 4 ∷ 4 ∷ 0 ∷ 4 ∷ 3 ∷ 0 ∷ [])
+    ∷ []
+
 -- round's end
 quantum-rows : List Row
 quantum-rows =
@@ -432,17 +470,17 @@ program-rows =
     ∷ []
 
 our-rows : List Row
-our-rows = plan-rows ++ grant-rows ++ tick-rows ++ quantum-rows ++ log-rows ++ program-rows
+our-rows = plan-rows ++ grant-rows ++ tick-rows ++ steal-rows ++ quantum-rows ++ log-rows ++ program-rows
 
 pub rows : List Row
 rows = document-rows ++ our-rows
 
 -- every row holds
 pub table : failing 0 rows ≡ []
-unfolding same row-holds failing task plan-bytes diamond one-task seven easy-seven ten link chain refusal after-calls quantum-kept
+unfolding same row-holds failing task plan-bytes diamond one-task seven easy-seven ten thirteen link chain refusal after-calls quantum-kept
     shown-from shown answered listed placed labelled document-rows seven-tasks header-fields task-fields fresh-with grant-number
-    quantum-shown current-shown history-shown shown-twice statuses-from statuses
-    plan-rows grant-rows tick-rows quantum-rows log-rows program-rows our-rows rows
+    quantum-shown current-shown history-shown shown-twice half-of-five three-thieves statuses-from statuses
+    plan-rows grant-rows tick-rows steal-rows quantum-rows log-rows program-rows our-rows rows
     below every keep member count-set all-set first-no flatMap Plan.predecessors Plan.number Plan.header Plan.task-bits
     Plan.successor-fields Plan.plan-of Plan.fields-ok Plan.two-differ Plan.targets-ok Plan.task-questions Plan.all-preceded
     Plan.one-exit Plan.header-questions Plan.graph-questions Plan.plan-questions Plan.plan-answer Machine.finished Machine.fresh

@@ -183,11 +183,12 @@ completed t worked = set worked t true
 unfoldable pub released : Graph → List Bool → ℕ → List ℕ
 released graph worked t = keep (ready graph worked) (successors-of graph t)
 
--- how many tasks a steal takes from the back of a deque of n
+-- how many tasks a successful steal takes from a deque of n: not "its back piece", as in document 01, but half. Request U1: "A successful
+-- steal shall take the back half of the victim's line, rounded down, in its order, and it still needs two pieces there."
 unfoldable pub stolen-count : ℕ → ℕ
-stolen-count n = 1
+stolen-count n = n / 2
 
--- what a steal leaves, and what it takes
+-- what a steal leaves, and what it takes: the last tasks, "in its order"
 unfoldable pub left-by-steal : List ℕ → List ℕ
 left-by-steal deque = take (length deque - stolen-count (length deque)) deque
 
@@ -245,7 +246,7 @@ mug-cycle w oldest e =
       counts = counted-mug (e .counts);
     }
 
--- "its back piece becomes the thief's line, a successful steal"
+-- what is taken "becomes the thief's line, a successful steal": one success, however many tasks move
 unfoldable pub successful-steal : ℕ → ℕ → Execution → Execution
 successful-steal w victim e =
     record {

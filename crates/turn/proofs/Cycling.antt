@@ -1,14 +1,14 @@
--- One cycle of a worker: which kind it is, and that what shows the model's cycle is sound.
+-- One cycle of a worker: that what shows the model's cycle is sound.
 use mathlib.Core.Path.{_≡_, refl, sym, subst, _∙_}
-use mathlib.Core.List.{List, [], _∷_}
+use mathlib.Core.List.{List, []}
 use Prim.Native.Nat.{ℕ, _+_, _-_, _≤_, _<_}
 use native.Mathlib.Omega.{arith}
 use lib.ListN.{length, getD}
 use borrow.Author.Needs.{needs}
-use borrow.Author.Tests.{le-leb, lt-leb}
 use Rattle.model.specs.Plan.{Graph}
-use Rattle.model.specs.Machine.{Execution, deque-of, work-cycle, mug-cycle, successful-steal, failed-steal, cycle-of, cycle}
+use Rattle.model.specs.Machine.{Execution, deque-of, cycle}
 use Rattle.model.specs.Statements.{SoundGraph}
+use Rattle.laws.proofs.Cycles.{works}
 use Rattle.laws.proofs.Placement.{cycle-placed, cycle-tallied}
 use Rattle.laws.proofs.Bounds.{cycle-bounded}
 use Rattle.memory.specs.Parts.{Parts, with-ends, SameGraph}
@@ -21,27 +21,6 @@ use Rattle.memory.proofs.Walks.{walk-front}
 use Rattle.memory.proofs.Views.{deque-at-is, worker-at, workers-shown}
 use Rattle.work.specs.Works.{Worked}
 use Rattle.turn.specs.Turns.{ChoiceTurn, Cycled}
-
--- ---- the model's cycle, by what the worker sees
-
-module _ (its-graph : Graph) (w choice : ℕ) (e : Execution) where
-  works : (t : ℕ) (rest : List ℕ) → deque-of e w ≡ t ∷ rest → cycle its-graph w choice e ≡ work-cycle its-graph w t e
-  unfolding cycle cycle-of
-  works t rest own = rw own
-
-  pub mugs : (oldest : List ℕ) (others : List (List ℕ)) → deque-of e w ≡ [] → e .muggable ≡ oldest ∷ others →
-      cycle its-graph w choice e ≡ mug-cycle w oldest e
-  unfolding cycle cycle-of
-  mugs oldest others own waiting = rw (own, waiting)
-
-  pub robs : deque-of e w ≡ [] → e .muggable ≡ [] → 2 ≤ length (deque-of e choice) →
-      cycle its-graph w choice e ≡ successful-steal w choice e
-  unfolding cycle cycle-of
-  robs own none many = rw (own, none, le-leb 2 (length (deque-of e choice)) many)
-
-  pub fails : deque-of e w ≡ [] → e .muggable ≡ [] → length (deque-of e choice) < 2 → cycle its-graph w choice e ≡ failed-steal e
-  unfolding cycle cycle-of
-  fails own none few = rw (own, none, lt-leb 2 (length (deque-of e choice)) few)
 
 lawful-cycle : (its-graph : Graph) (e : Execution) (w choice : ℕ) → SoundGraph its-graph → Lawful its-graph e → w < length (e .deques) →
     Lawful its-graph (cycle its-graph w choice e)

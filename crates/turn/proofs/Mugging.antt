@@ -6,6 +6,7 @@ use native.Mathlib.Omega.{arith}
 use lib.ListN.{getD, set}
 use borrow.Author.Needs.{needs}
 use Rattle.model.specs.Machine.{mug-cycle}
+use Rattle.laws.proofs.Cycles.{mugs}
 use Rattle.memory.specs.Parts.{Parts}
 use Rattle.memory.specs.Words.{Numbers}
 use Rattle.memory.specs.Graphs.{graph}
@@ -14,7 +15,7 @@ use Rattle.memory.specs.Cycles.{after-mug}
 use Rattle.memory.proofs.Executions.{same-execution, mug-counted}
 use Rattle.memory.proofs.Views.{deque-at-is, put-places, put-deques, put-muggable, ring-tail}
 use Rattle.turn.specs.Turns.{ChoiceTurn, Cycled}
-use Rattle.turn.proofs.Cycling.{mugs, few-workers, worker-place, own-empty, cycled-idle}
+use Rattle.turn.proofs.Cycling.{few-workers, worker-place, own-empty, cycled-idle}
 
 module _ {p : Parts} {m : Numbers} {w choice : ℕ} (turn : ChoiceTurn p m w choice) (some : 0 < m .waiting) where
   abbrev oldest : ℕ

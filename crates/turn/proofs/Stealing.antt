@@ -12,6 +12,7 @@ use Rattle.model.specs.Tests.{below}
 use Rattle.model.specs.Machine.{deque-of, stolen-count, successful-steal, failed-steal, left-by-steal, taken-by-steal}
 use Rattle.lists.proofs.Lists.{every-from}
 use Rattle.laws.proofs.Stealing.{some-left}
+use Rattle.laws.proofs.Cycles.{robs, fails}
 use Rattle.laws.proofs.Placement.{worker-has}
 use Rattle.memory.specs.declared.Deque.{Deque}
 use Rattle.memory.specs.Parts.{Parts}
@@ -25,7 +26,7 @@ use Rattle.memory.proofs.Views.{deque-at-is, worker-at, tasks-shown, put-places
 use Rattle.deque.specs.Links.{link-after, Robbable, left-of, taken-of, robbed}
 use Rattle.deque.proofs.Walks.{take-walk, drop-walk}
 use Rattle.turn.specs.Turns.{ChoiceTurn, Cycled}
-use Rattle.turn.proofs.Cycling.{robs, fails, few-workers, worker-place, choice-place, own-empty, cycled-idle}
+use Rattle.turn.proofs.Cycling.{few-workers, worker-place, choice-place, own-empty, cycled-idle}
 
 none-shown : (next ends : List ℕ) (head waiting : ℕ) → waiting ≡ 0 → muggable-view next ends head waiting ≡ []
 unfolding muggable-view below

@@ -81,7 +81,13 @@ impl Pair {
         };
         let reference = match call {
             Call::Grant(workers) => reference_number(&self.reference.grant(at_most_usize(workers))),
-            Call::Tick(choices) => reference_number(&self.reference.tick(choices)),
+            Call::Tick(choices) => {
+                let answer = self.reference.tick(choices);
+                if let Ok(report) = &answer {
+                    totals.count_thefts(&report.cycles);
+                }
+                reference_number(&answer)
+            }
         };
         totals.count_call(call, proved);
         if proved != reference {

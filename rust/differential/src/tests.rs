@@ -5,7 +5,8 @@ use std::time::Duration;
 use reference::generator::logs::marathon_log;
 use reference::generator::plans::{marathon_draft, sound_draft, Draft};
 use reference::generator::Random;
-use reference::{DigitCount, Entries, Rules, MOST_QUANTA};
+use reference::theft::BENT;
+use reference::{DigitCount, Entries, Rules, Theft, MOST_QUANTA};
 
 use crate::accept::fresh;
 use crate::compare::{self, Part};
@@ -168,6 +169,39 @@ fn another_limit_of_quanta_is_found() {
     }
 }
 
+/// In what the jobs of a generated case first differ where the reference steals by that rule.
+fn with_theft(theft: Theft, seed: u64) -> Option<Part> {
+    let random = &mut Random::new(seed);
+    let plan = sound_draft(random);
+    let mut pair = pair(&plan, &plan);
+    let log = inputs::log(random, &pair.reference);
+    pair.reference = pair.reference.with_rules(Rules {
+        theft,
+        ..Rules::default()
+    });
+    let totals = &mut Totals::default();
+    let mut entries = Entries::new(&log).filter_map(Result::ok);
+    let called = entries.try_for_each(|entry| pair.call(Call::from(entry), totals));
+    called.err().map(|difference| difference.part)
+}
+
+#[test]
+fn another_theft_is_found() {
+    let found = |theft| (0..200).filter_map(move |seed| with_theft(theft, seed));
+    assert_eq!(found(Theft::default()).count(), 0);
+    for theft in BENT {
+        let parts: Vec<Part> = found(theft).collect();
+        let part = if theft.each_succeeds {
+            "successful steals"
+        } else {
+            "deques"
+        };
+        assert!(parts.contains(&part));
+        // Not in all: most logs have few steals that succeed, and most of these take one task.
+        assert!(parts.len() > 25, "{} with {theft:?}", parts.len());
+    }
+}
+
 /// How many of 2,000 counters lines differ where the reference counts digits so.
 fn lines_with(digits: DigitCount) -> usize {
     let random = &mut Random::new(7);
@@ -286,6 +320,7 @@ fn a_run_reaches_every_refusal() {
     assert!(totals.responsiveness[2..].iter().all(|&count| count > 0));
     assert!(totals.ticks[0] > 0 && totals.ticks[64] > 0);
     assert!(totals.digits[1..].iter().all(|&count| count > 0));
+    assert!(totals.thefts.iter().all(|&count| count > 0));
 }
 
 #[test]

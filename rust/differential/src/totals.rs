@@ -2,7 +2,7 @@
 
 use std::fmt;
 
-use reference::DigitCount;
+use reference::{Cycle, DigitCount};
 
 use crate::pair::{Call, Reference};
 
@@ -26,6 +26,8 @@ pub struct Totals {
     pub ticks: [u64; 65],
     /// Work, mug and steal cycles and successful steals of the jobs that logs moved call by call.
     pub cycles: [u64; 4],
+    /// Steal cycles of all calls by the tasks taken: none, one, two, three, or more.
+    pub thefts: [u64; 5],
     /// Logs run whole.
     pub logs: u64,
     /// The calls in them; the states were compared at the log's end.
@@ -54,6 +56,7 @@ impl Default for Totals {
             refused_calls: 0,
             ticks: [0; 65],
             cycles: [0; 4],
+            thefts: [0; 5],
             logs: 0,
             log_calls: 0,
             log_refusals: [0; 21],
@@ -94,6 +97,15 @@ impl Totals {
         self.count_refusal(number);
         if let (Call::Tick(choices), 0) = (call, number) {
             add(&mut self.ticks, choices.len());
+        }
+    }
+
+    /// Counts the steal cycles of a tick.
+    pub fn count_thefts(&mut self, cycles: &[Cycle]) {
+        for cycle in cycles {
+            if let Cycle::Steal { stolen, .. } = *cycle {
+                add(&mut self.thefts, stolen.min(4));
+            }
         }
     }
 
@@ -172,6 +184,12 @@ impl fmt::Display for Totals {
         writeln!(out, "{:>12}  comparisons of whole states", self.states)?;
         let [work, mug, steal, successes] = self.cycles;
         writeln!(out, "{work:>12}  work cycles, {mug} mug cycles, {steal} steal cycles, {successes} with success")?;
+        writeln!(
+            out,
+            "{:>12}  steal cycles in vain; with one task taken, two, three, or more: {:?}",
+            self.thefts[0],
+            &self.thefts[1..]
+        )?;
         writeln!(out, "{:>12}  accepted ticks of no worker", ticks(0, 0))?;
         writeln!(out, "{:>12}  of 1 to 8 workers", ticks(1, 8))?;
         writeln!(out, "{:>12}  of 9 to 32 workers", ticks(9, 32))?;

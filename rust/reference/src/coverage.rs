@@ -26,7 +26,10 @@ pub enum Branch {
     WorkTwoReady,
     MugOne,
     MugMany,
-    StealSuccess,
+    StealOneOfTwo,
+    StealOneOfThree,
+    StealMoreEven,
+    StealMoreOdd,
     StealVainOther,
     StealVainSelf,
     FinishAlone,
@@ -43,7 +46,7 @@ pub enum Branch {
 use Branch::*;
 
 /// Every branch with what it is.
-pub const BRANCHES: [(Branch, &str); 24] = [
+pub const BRANCHES: [(Branch, &str); 27] = [
     (GrantZero, "grant: of 0"),
     (GrantFirst, "grant: the first above 0"),
     (
@@ -59,7 +62,10 @@ pub const BRANCHES: [(Branch, &str); 24] = [
     (WorkTwoReady, "tick: work, two successors ready"),
     (MugOne, "tick: mug of one task"),
     (MugMany, "tick: mug of two or more tasks"),
-    (StealSuccess, "tick: steal"),
+    (StealOneOfTwo, "tick: steal of one task out of two"),
+    (StealOneOfThree, "tick: steal of one task out of three"),
+    (StealMoreEven, "tick: steal of two or more, as many left"),
+    (StealMoreOdd, "tick: steal of two or more, one more left"),
     (StealVainOther, "tick: steal in vain from another"),
     (StealVainSelf, "tick: steal in vain from itself"),
     (FinishAlone, "tick: finish, no later worker"),
@@ -236,10 +242,15 @@ fn cycle_branch(worker: usize, cycle: &Cycle) -> Branch {
         Cycle::Mug { length: 1 } => MugOne,
         Cycle::Mug { .. } => MugMany,
         Cycle::Steal {
-            stolen: Some(_), ..
-        } => StealSuccess,
-        Cycle::Steal { victim, .. } if victim == worker => StealVainSelf,
-        Cycle::Steal { .. } => StealVainOther,
+            victim, stolen: 0, ..
+        } if victim == worker => StealVainSelf,
+        Cycle::Steal { stolen: 0, .. } => StealVainOther,
+        Cycle::Steal {
+            stolen: 1, left: 1, ..
+        } => StealOneOfTwo,
+        Cycle::Steal { stolen: 1, .. } => StealOneOfThree,
+        Cycle::Steal { stolen, left, .. } if stolen == left => StealMoreEven,
+        Cycle::Steal { .. } => StealMoreOdd,
     }
 }
 

@@ -7,6 +7,7 @@ use crate::counters::DigitCount;
 use crate::plan::{read_plan, Plan};
 use crate::quantum::{classify, is_efficient, next_desire, QuantumEnd};
 use crate::refusal::{ask, Refusal};
+use crate::theft::Theft;
 
 /// No more quanta than this begin. Request U4: a grant passes with 4,095
 /// begun and is refused with 13 where 4,096 have begun.
@@ -20,6 +21,8 @@ pub struct Rules {
     pub most_quanta: u32,
     /// How the digits of the counters line's numbers are counted.
     pub digits: DigitCount,
+    /// What a steal takes.
+    pub theft: Theft,
 }
 
 impl Default for Rules {
@@ -27,6 +30,7 @@ impl Default for Rules {
         Rules {
             most_quanta: MOST_QUANTA,
             digits: DigitCount::default(),
+            theft: Theft::default(),
         }
     }
 }
@@ -108,8 +112,13 @@ pub enum Cycle {
     Work { task: u16, enabled: usize },
     /// A mug cycle (document 01: mug tick) that took a deque of this length.
     Mug { length: usize },
-    /// A steal cycle (document 01: steal tick), in vain if nothing was stolen.
-    Steal { victim: usize, stolen: Option<u16> },
+    /// A steal cycle (document 01: steal tick): so many tasks were stolen and
+    /// so many left to the victim. In vain if none was stolen.
+    Steal {
+        victim: usize,
+        stolen: usize,
+        left: usize,
+    },
 }
 
 /// What an accepted tick did.
@@ -221,7 +230,7 @@ impl Job {
         self.steal_cycles
     }
 
-    /// Steal cycles that took a task.
+    /// Steal cycles that took something.
     pub fn successful_steals(&self) -> u64 {
         self.successful_steals
     }
@@ -345,10 +354,7 @@ impl Job {
             self.deques[worker] = deque;
             Cycle::Mug { length }
         } else {
-            let stolen = self.steal(choice);
-            self.deques[worker].extend(stolen);
-            let victim = choice;
-            Cycle::Steal { victim, stolen }
+            self.steal(worker, choice)
         }
     }
 
@@ -375,14 +381,18 @@ impl Job {
         predecessors.iter().all(|&p| self.worked[usize::from(p)])
     }
 
-    /// The back task of the victim's deque if that has two or more. The
-    /// thief's own deque is empty, so choosing itself is in vain.
-    fn steal(&mut self, victim: usize) -> Option<u16> {
-        let deque = &mut self.deques[victim];
-        if deque.len() >= 2 {
-            deque.pop_back()
-        } else {
-            None
+    /// What is taken from the victim becomes the thief's deque. That is empty
+    /// before, so choosing itself is in vain.
+    fn steal(&mut self, thief: usize, victim: usize) -> Cycle {
+        let taken = self.rules.theft.take(&mut self.deques[victim]);
+        let (stolen, left) = (taken.len(), self.deques[victim].len());
+        if stolen > 0 {
+            self.deques[thief] = taken;
+        }
+        Cycle::Steal {
+            victim,
+            stolen,
+            left,
         }
     }
 
@@ -400,7 +410,7 @@ impl Job {
             }
             Cycle::Steal { stolen, .. } => {
                 self.steal_cycles += 1;
-                self.successful_steals += u64::from(stolen.is_some());
+                self.successful_steals += self.rules.theft.successes(*stolen);
                 0
             }
         }

@@ -4,7 +4,7 @@
 //! compared with it.
 //!
 //! Reading order, which is document 01's: [`plan`], [`job`] (grant and tick),
-//! [`quantum`] (round's end), [`log`], [`label`], [`counters`], [`program`].
+//! [`theft`] (what a steal takes), [`quantum`] (round's end), [`log`], [`label`], [`counters`], [`program`].
 //! [`generator`] makes random plans and logs from a seed and [`coverage`]
 //! counts what they reach. [`stored`] chooses a set of cases to be kept.
 //!
@@ -23,6 +23,7 @@ pub mod program;
 pub mod quantum;
 pub mod refusal;
 pub mod stored;
+pub mod theft;
 
 pub use counters::{counters_line, counters_text, line_size, ten_numbers, DigitCount};
 pub use job::{Cycle, GrantReport, Job, OpenQuantum, Rules, Status, TickReport, MOST_QUANTA};
@@ -32,3 +33,4 @@ pub use plan::{read_plan, Plan, Task};
 pub use program::{program_output, split_input};
 pub use quantum::{is_efficient, next_desire, QuantumEnd};
 pub use refusal::Refusal;
+pub use theft::{Share, Theft};

@@ -19,7 +19,7 @@ pub const KEPT_SEED: u64 = 1;
 const SMALL: usize = 400;
 
 /// Generated cases are taken until the set has this size.
-const ENOUGH: usize = 275_400;
+const ENOUGH: usize = 284_000;
 
 const SHAPES: [Shape; 5] = [
     Shape::Chain,
@@ -38,6 +38,7 @@ pub fn stored_set(seed: u64) -> Vec<u8> {
         edges(),
         spent(),
         counted(),
+        robbed(),
         shaped(&mut random),
         wide(&mut random),
     ];
@@ -129,6 +130,63 @@ fn counted() -> Vec<Vec<u8>> {
     let counts = [9, 10, 99, 100, 999, 1_000, 9_999, 10_000];
     let log = |count: &usize| input(&plan, &vec![above_desire; *count]);
     counts.iter().map(log).collect()
+}
+
+/// Lines of three to ten tasks that one thief robs, and one of 300 that 63
+/// thieves rob in one tick.
+fn robbed() -> Vec<Vec<u8>> {
+    let lines = (3..=10).map(|size| (size, 2)).chain([(300, 64)]);
+    lines
+        .map(|(size, workers)| thieves(size, workers))
+        .collect()
+}
+
+/// The desire climbs to the number of workers, in steal cycles in vain; worker
+/// 0 alone goes on until one more work cycle gives its line this size; then all
+/// others steal from it, in that tick and in the next; at the end two workers
+/// finish the job.
+fn thieves(size: usize, workers: usize) -> Vec<u8> {
+    let mut draft = Draft::of_graph(&nested(size + 3));
+    draft.utilization = 1;
+    draft.quantum_length = 1;
+    let plan = draft.bytes();
+    let log = Job::accept(&plan).map(|job| {
+        let mut writer = Writer::new(job);
+        while writer.job.desire() < workers {
+            let own: Vec<u8> = (0..writer.job.desire() as u8).collect();
+            writer.grant(own.len());
+            writer.tick(&own);
+        }
+        while writer.job.deques()[0].len() + 1 < size {
+            writer.grant(1);
+            writer.tick(&[0]);
+        }
+        for most in [workers; 8].into_iter().chain([2; 999]) {
+            let count = writer.job.desire().min(most);
+            writer.grant(count);
+            writer.tick(&vec![0; count]);
+            if writer.job.is_finished() {
+                break;
+            }
+        }
+        writer.bytes
+    });
+    input(&plan, &log.unwrap_or_default())
+}
+
+/// Forks inside each other's first part: a worker alone has one task more in
+/// its line after each of them. The joins take up the last fork first.
+fn nested(forks: usize) -> Vec<Vec<u16>> {
+    let task = |number: usize| number as u16;
+    let leaf = 2 * forks;
+    let mut graph = vec![Vec::new(); 3 * forks + 1];
+    for fork in 0..forks {
+        graph[(2 * fork).saturating_sub(1)] = vec![task(2 * fork + 1), task(2 * fork + 2)];
+        graph[2 * fork + 2] = vec![task(leaf + forks - fork)];
+        graph[leaf + fork] = vec![task(leaf + fork + 1)];
+    }
+    graph[leaf - 1] = vec![task(leaf + 1)];
+    graph
 }
 
 /// Every shape with every way to grant, and every shape with the fewest and

@@ -236,18 +236,20 @@ impl Tables {
             *self.ends.get_unchecked(SIZES + WORKERS + head);
     }
 
-    /// The back task of a deque of this size, two or more, becomes the thief's deque.
+    /// The back half, rounded down, of a deque of this size, two or more, becomes the thief's deque.
     ///
     /// # Safety
     /// Both are below 64.
     #[inline(always)]
     unsafe fn steal(&mut self, thief: usize, victim: usize, size: u16) {
+        let taken = size / 2;
+        let left = size - taken;
         let mut task = *self.ends.get_unchecked(victim);
-        for _ in 1..size {
+        for _ in 0..left {
             task = *self.next.get_unchecked(usize::from(task));
         }
-        *self.ends.get_unchecked_mut(SIZES + victim) = size - 1;
+        *self.ends.get_unchecked_mut(SIZES + victim) = left;
         *self.ends.get_unchecked_mut(thief) = task;
-        *self.ends.get_unchecked_mut(SIZES + thief) = 1;
+        *self.ends.get_unchecked_mut(SIZES + thief) = taken;
     }
 }

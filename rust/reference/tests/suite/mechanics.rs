@@ -63,6 +63,58 @@ fn a_deque_just_mugged_can_be_robbed() {
     assert_eq!((job.mug_cycles(), job.successful_steals()), (1, 1));
 }
 
+/// Thirteen tasks: 0, 1, 3 and 5 have two successors each, the second of which
+/// waits at the back of the line; the joins are 9 to 12.
+fn comb() -> Job {
+    let successors: [&[u16]; 13] = [
+        &[1, 2],
+        &[3, 4],
+        &[12],
+        &[5, 6],
+        &[11],
+        &[7, 8],
+        &[10],
+        &[9],
+        &[9],
+        &[10],
+        &[11],
+        &[12],
+        &[],
+    ];
+    let graph = successors.iter().map(|list| list.to_vec()).collect();
+    let mut draft = Draft::of_graph(&graph);
+    (draft.quantum_length, draft.utilization) = (1, 1);
+    job(&draft.bytes())
+}
+
+#[test]
+fn a_thief_takes_the_back_half_in_its_order() {
+    let robbed: [(usize, [&[u16]; 2]); 3] = [
+        (1, [&[3, 4], &[2]]),
+        (2, [&[5, 6], &[4, 2]]),
+        (3, [&[7, 8, 6], &[4, 2]]),
+    ];
+    for (alone, lines) in robbed {
+        let mut job = comb();
+        for _ in 0..alone {
+            quantum(&mut job, &[0]);
+        }
+        quantum(&mut job, &[0, 0]);
+        assert_eq!(job.deques(), lines);
+        assert_eq!((job.steal_cycles(), job.successful_steals()), (1, 1));
+    }
+}
+
+#[test]
+fn three_thieves_in_one_tick() {
+    let mut job = comb();
+    for choices in [&[0][..], &[0], &[0, 1], &[0, 0, 0, 1]] {
+        quantum(&mut job, choices);
+    }
+    assert_eq!(job.deques(), [vec![7, 8], vec![4], vec![6], vec![2]]);
+    assert_eq!((job.steal_cycles(), job.successful_steals()), (4, 3));
+}
+
 #[test]
 fn only_workers_from_the_grant_up_are_withdrawn() {
     let mut job = tree();

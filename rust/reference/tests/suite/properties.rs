@@ -64,6 +64,7 @@ impl Witness {
                 self.check_order(job.plan(), &report.cycles);
                 check_progress(before, job);
                 check_cycles(before, job, &report.cycles);
+                check_thefts(&report.cycles);
             }
             _ => panic!("a tick with a grant's report"),
         }
@@ -102,7 +103,7 @@ fn check_cycles(before: &Job, job: &Job, cycles: &[Cycle]) {
     let work = count(|c| matches!(c, Cycle::Work { .. }));
     let mug = count(|c| matches!(c, Cycle::Mug { .. }));
     let steal = count(|c| matches!(c, Cycle::Steal { .. }));
-    let stolen = count(|c| matches!(c, Cycle::Steal { stolen, .. } if stolen.is_some()));
+    let stolen = count(|c| matches!(c, Cycle::Steal { stolen, .. } if *stolen > 0));
     assert_eq!(job.work_cycles() - before.work_cycles(), work);
     assert_eq!(job.mug_cycles() - before.mug_cycles(), mug);
     assert_eq!(job.steal_cycles() - before.steal_cycles(), steal);
@@ -111,6 +112,16 @@ fn check_cycles(before: &Job, job: &Job, cycles: &[Cycle]) {
     if let (Some(old), Some(new)) = (before.open_quantum(), job.open_quantum()) {
         assert_eq!(new.ticks, old.ticks + 1);
         assert_eq!(new.usage, old.usage + work + mug);
+    }
+}
+
+/// A steal takes half of two or more tasks, rounded down, and nothing of fewer.
+fn check_thefts(cycles: &[Cycle]) {
+    for cycle in cycles {
+        if let Cycle::Steal { stolen, left, .. } = *cycle {
+            let had = stolen + left;
+            assert_eq!(stolen, if had < 2 { 0 } else { had / 2 });
+        }
     }
 }
 

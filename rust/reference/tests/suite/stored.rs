@@ -2,8 +2,9 @@
 
 use reference::coverage::{Coverage, BRANCHES};
 use reference::stored::{stored_cases, stored_set, KEPT_SEED};
-use reference::{program_output, read_plan, run_log_with, split_input};
-use reference::{Entries, Job, Refusal, Status, MOST_QUANTA};
+use reference::theft::BENT;
+use reference::{counters_text, program_output, read_plan, run_log, run_log_with, split_input};
+use reference::{Entries, Job, Refusal, Rules, Status, Theft, MOST_QUANTA};
 
 /// The kept set, which the crate `vectors` runs, and what it must write.
 const KEPT: &[u8] = include_bytes!("../../../../crates/vectors/stdin");
@@ -132,5 +133,33 @@ fn kept_set_has_numbers_on_both_sides_of_a_power_of_ten() {
         .collect();
     for power in [10, 100, 1_000, 10_000] {
         assert!(lasts.contains(&(power - 1)) && lasts.contains(&power));
+    }
+}
+
+/// Whether a case's line is another one where steals follow that rule.
+fn shows(theft: Theft, input: &[u8], output: &[u8]) -> bool {
+    let bent = |(plan, log)| {
+        let rules = Rules {
+            theft,
+            ..Rules::default()
+        };
+        let mut job = Job::accept(plan).ok()?.with_rules(rules);
+        let outcome = run_log(&mut job, log);
+        Some(counters_text(&job, outcome.refused))
+    };
+    let line = split_input(input).ok().and_then(bent);
+    line.map_or(false, |line| !output.starts_with(line.as_bytes()))
+}
+
+#[test]
+fn kept_set_tells_thefts_apart() {
+    let found = |theft| {
+        let cases = kept();
+        let shown = cases.iter().filter(|(i, o)| shows(theft, i, o));
+        shown.count()
+    };
+    assert_eq!(found(Theft::default()), 0);
+    for theft in BENT {
+        assert!(found(theft) >= 10, "{} with {theft:?}", found(theft));
     }
 }
