@@ -210,6 +210,32 @@ static void test_calls(void)
     release_job(job);
 }
 
+/* thirteen tasks, of which worker 0 alone has five in its deque after four: a thief takes two of them and works them in the next two
+ * ticks; and three thieves in one tick, of which the second takes half of what the first left, the third half of what the first took */
+static void test_thefts(void)
+{
+    static const unsigned next[13][2] = {{1, 2}, {3, 4}, {12, 0}, {5, 6}, {11, 0}, {7, 8}, {10, 0}, {9, 0}, {9, 0}, {10, 0}, {11, 0},
+        {12, 0}, {0, 0}};
+    static const char one[] = "\x01\x81\0\x01\x81\0\x01\x81\0\x02\x82\0\0";
+    static const char three[] = "\x01\x81\0\x01\x81\0\x02\x82\0\x01\x04\x84\0\0\0\x01";
+    plan_bytes plan;
+    jirvaldo_job *job;
+    uint64_t refused = 99;
+    unsigned t;
+    put_header(&plan, 1, 2, 1, 1, 13);
+    for (t = 0; t < 12; t++) put_task(&plan, t, next[t][1] == 0 ? 1 : 2, next[t][0], next[t][1]);
+    job = accepted(&plan);
+    CHECK(log_bytes(job, (const uint8_t *)one, sizeof one - 1, &refused) == 0 && refused == 0);
+    CHECK(line_is(job, 0, "1 4 13 4 2 4 0 1 1 0"));
+    CHECK(log_bytes(job, (const uint8_t *)"\x02\x82\0\0\x02\x82\0\0", 8, &refused) == 0 && refused == 0);
+    CHECK(line_is(job, 0, "1 8 13 4 2 8 0 1 1 0"));
+    release_job(job);
+    job = accepted(&plan);
+    CHECK(log_bytes(job, (const uint8_t *)three, sizeof three - 1, &refused) == 0 && refused == 0);
+    CHECK(line_is(job, 0, "1 4 13 8 4 4 0 4 3 0"));
+    release_job(job);
+}
+
 /* all quanta that may begin, of 0 workers and one tick each; then as a log */
 static void test_spent_quanta(void)
 {
@@ -636,6 +662,7 @@ int main(int count, char **arguments)
     uint64_t seed = 1;
     test_plans();
     test_calls();
+    test_thefts();
     test_spent_quanta();
     test_logs();
     test_wordings();

@@ -90,8 +90,8 @@ typedef struct jirvaldo_numbers {
     uint64_t allotment;     /* workers that the last accepted grant gave */
     uint64_t work;          /* cycles in which a worker worked a task */
     uint64_t mug;           /* cycles in which a worker picked up the deque of a withdrawn one */
-    uint64_t steal;         /* cycles in which a worker tried to take a task from another's deque */
-    uint64_t successes;     /* how many of these took one */
+    uint64_t steal;         /* cycles in which a worker tried to take tasks from another's deque */
+    uint64_t successes;     /* how many of these took some */
     uint64_t refused_calls; /* as handed over */
 } jirvaldo_numbers;
 
@@ -122,7 +122,8 @@ static inline unsigned jirvaldo_grant(jirvaldo_job *job, uint64_t workers)
 }
 
 /* One tick, with the number of a worker to steal from for each granted worker. 0: each worker took its cycle, in number order, up to the
- * cycle that finished the job; the L-th tick of an unfinished job closes the quantum. 11: the job is finished. 15: no quantum is open.
+ * cycle that finished the job; the L-th tick of an unfinished job closes the quantum. A worker that steals gets the back half of the chosen
+ * deque, rounded down and in its order, if that has two or more tasks, and else nothing. 11: the job is finished. 15: no quantum is open.
  * 16: there is not exactly one choice for each granted worker. 17: a choice is not below the granted number. Refused, the job is byte for
  * byte as it was. */
 static inline unsigned jirvaldo_tick(jirvaldo_job *job, const uint8_t *choices, size_t size)

@@ -4,7 +4,7 @@ use reference::generator::graph::{graph, Graph, Shape, MOST_TASKS};
 use reference::generator::logs::Writer;
 use reference::generator::plans::Draft;
 use reference::generator::Random;
-use reference::{run_log, run_log_with, Job, Refusal, MOST_QUANTA};
+use reference::{run_log, run_log_with, Cycle, Job, Refusal, Report, MOST_QUANTA};
 
 /// A plan, the log that brings its job to the measured state, and the calls that are measured, as a log too.
 pub struct Scene {
@@ -127,6 +127,26 @@ fn cycles(scene: &Scene) -> (usize, usize, usize) {
     (more(0), more(1), more(2))
 }
 
+/// Of each steal of a scene's measured calls that succeeds: the tasks it takes, and those it leaves, which are the links that it follows.
+fn thefts(scene: &Scene) -> Vec<(usize, usize)> {
+    let mut job = Job::accept(&scene.plan).expect("the benchmark's plans are sound");
+    run_log(&mut job, &scene.before);
+    let mut thefts = Vec::new();
+    run_log_with(&mut job, &scene.timed, |_, _, answer| {
+        if let Ok(Report::Tick(report)) = answer {
+            thefts.extend(report.cycles.iter().filter_map(theft));
+        }
+    });
+    thefts
+}
+
+fn theft(cycle: &Cycle) -> Option<(usize, usize)> {
+    match *cycle {
+        Cycle::Steal { stolen, left, .. } if stolen > 0 => Some((stolen, left)),
+        _ => None,
+    }
+}
+
 /// Whether a scene grants no quantum after the last that may begin.
 pub fn has_quanta(scene: &Scene) -> bool {
     let mut job = Job::accept(&scene.plan).expect("the benchmark's plans are sound");
@@ -167,7 +187,8 @@ pub fn working(workers: usize) -> Scene {
     scene
 }
 
-/// 32 workers are on a comb each, and 32 steal its teeth: a steal that succeeds in every second tick of a thief.
+/// 32 workers are on a comb each, and 32 steal its teeth, one of two or three tasks and then two of four: a steal that succeeds in every
+/// second tick of a thief.
 pub fn thieves() -> Scene {
     let mut graph = Graph::new();
     let (_, end) = chain(&mut graph, 3 * 6 + 1);
@@ -179,6 +200,8 @@ pub fn thieves() -> Scene {
         (6 * 64 - 3 * 32, 0, 3 * 32),
         "32 steal in every second tick"
     );
+    let lines = [[(1, 1); 32], [(1, 2); 32], [(2, 2); 32]].concat();
+    assert_eq!(thefts(&scene), lines, "lines of two, three and four");
     scene
 }
 
@@ -231,16 +254,19 @@ pub fn in_vain(workers: usize) -> Scene {
     scene
 }
 
-/// One tick in which 63 workers steal from the same deque of 300 tasks.
+/// One tick in which 63 workers steal from the same deque of 300 tasks. Nine succeed, until one task is left. The links that they follow are
+/// the 299 tasks taken, and one more for each of the four thefts from an odd number of tasks: 303.
 pub fn long_deque() -> Scene {
+    let own = |workers: usize| (0..workers as u8).collect::<Vec<u8>>();
     let mut graph = Graph::new();
     comb(&mut graph, 341);
-    let plan = plan_bytes(&graph, 4, 100);
+    let plan = plan_bytes(&graph, 4, 99);
     let mut writer = writer(&plan);
     for _ in 0..3 {
-        quantum(&mut writer, 64, |workers| (0..workers as u8).collect());
+        quantum(&mut writer, 64, own);
     }
     writer.grant(64);
+    writer.tick(&own(64));
     let before = cut(&mut writer);
     writer.tick(&[0; 64]);
     let scene = Scene {
@@ -249,6 +275,8 @@ pub fn long_deque() -> Scene {
         timed: writer.bytes,
     };
     assert_eq!(cycles(&scene), (1, 0, 63), "one works");
+    let followed: Vec<usize> = thefts(&scene).iter().map(|&(_, left)| left).collect();
+    assert_eq!(followed, [150, 75, 38, 19, 10, 5, 3, 2, 1], "300 tasks");
     scene
 }
 

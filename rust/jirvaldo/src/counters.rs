@@ -25,9 +25,9 @@ pub struct Counters {
     pub work: u64,
     /// Mug cycles: a worker took over the deque of a withdrawn worker.
     pub mug: u64,
-    /// Steal cycles: a worker tried to take a task from another's deque.
+    /// Steal cycles: a worker tried to take tasks from another's deque.
     pub steal: u64,
-    /// Steal cycles that took a task.
+    /// Steal cycles that took tasks.
     pub successes: u64,
     /// Refused calls, as the caller counts them; see [`LogRun::refused_calls`](crate::LogRun::refused_calls).
     pub refused_calls: u64,

@@ -155,7 +155,7 @@ impl<'a> View<'a> {
         self.word(5)
     }
 
-    /// Steal cycles that took a task.
+    /// Steal cycles that took tasks.
     pub fn successes(self) -> u64 {
         self.word(6)
     }
@@ -206,7 +206,7 @@ pub struct State {
     pub mug: u64,
     /// Steal cycles.
     pub steal: u64,
-    /// Steal cycles that took a task.
+    /// Steal cycles that took tasks.
     pub successes: u64,
     /// Work and mug cycles of the open quantum, or of the last one where none is open.
     pub usage: u64,

@@ -106,6 +106,9 @@ impl Job {
     /// One tick: each granted worker takes a cycle, in number order. Choice i is the worker from whom worker i steals where it has nothing
     /// else to do; a choice is needed of every worker, read or not. After its L-th tick a quantum closes, and the desire moves.
     ///
+    /// A worker that steals gets the back half of the chosen deque, rounded down and in its order, if that has two or more tasks, and else
+    /// nothing. It is one success, however many tasks it takes.
+    ///
     /// # Errors
     /// In this order: [`Finished`](Refusal::Finished) (11), [`NoQuantumOpen`](Refusal::NoQuantumOpen) (15),
     /// [`WrongChoiceCount`](Refusal::WrongChoiceCount) (16), [`BadChoice`](Refusal::BadChoice) (17). The job is then as it was.

@@ -230,7 +230,7 @@ impl Job {
         self.steal_cycles
     }
 
-    /// Steal cycles that took something.
+    /// Steal cycles that took tasks.
     pub fn successful_steals(&self) -> u64 {
         self.successful_steals
     }

@@ -1,4 +1,4 @@
-//! Document 01's examples 1 to 4, 7 and 9.
+//! Document 01's examples 1 to 4, 7 and 9, and request U1's thieves.
 
 use jirvaldo::inspect::State;
 use jirvaldo::{Job, Refusal, Status};
@@ -49,6 +49,49 @@ fn example_7_thief_takes_the_back() {
     assert_eq!(job.tick(&[0, 0]), Ok(()));
     assert_eq!(State::of(&job).deques, [vec![3, 4], vec![2]]);
     assert_eq!(job.counters(0).successes, 1);
+}
+
+/// Thirteen tasks: worker 0 alone has 5, 6, 4, 2 in its deque after three of them, and then 7, 8, 6, 4, 2.
+const NESTED: [&[u32]; 13] = [
+    &[1, 2],
+    &[3, 4],
+    &[12],
+    &[5, 6],
+    &[11],
+    &[7, 8],
+    &[10],
+    &[9],
+    &[9],
+    &[10],
+    &[11],
+    &[12],
+    &[],
+];
+
+#[test]
+fn a_thief_takes_the_back_half_in_its_order() {
+    for (log, left, taken) in [
+        ("01 81 00 01 81 00 02", vec![5, 6], vec![4, 2]),
+        ("01 81 00 01 81 00 01 81 00 02", vec![7, 8, 6], vec![4, 2]),
+    ] {
+        let mut job = job(&plan(2, 1, 1, &NESTED));
+        assert_eq!(job.run_log(&hex(log)).refused_calls, 0);
+        assert_eq!(job.tick(&[0, 0]), Ok(()));
+        assert_eq!(State::of(&job).deques, [left, taken]);
+        assert_eq!((job.counters(0).steal, job.counters(0).successes), (1, 1));
+    }
+}
+
+#[test]
+fn three_thieves_in_one_tick() {
+    let mut job = job(&plan(2, 1, 1, &NESTED));
+    let run = job.run_log(&hex("01 81 00 01 81 00 02 82 00 01 04 84 00 00 00 01"));
+    assert_eq!(run.refused_calls, 0);
+    assert_eq!(
+        State::of(&job).deques,
+        [vec![7, 8], vec![4], vec![6], vec![2]]
+    );
+    assert_eq!(&*job.line(0), "1 4 13 8 4 4 0 4 3 0");
 }
 
 #[test]
