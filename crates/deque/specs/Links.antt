@@ -34,7 +34,7 @@ left-of d = record { front = d .front; size = d .size - stolen-count (d .size) }
 abbrev pub taken-of : List ℕ → Deque → Deque
 taken-of next d = record { front = link-after next (d .front) (d .size - stolen-count (d .size)); size = stolen-count (d .size) }
 
--- the back part of the victim's deque is the thief's
+-- the back half of the victim's deque is the thief's
 abbrev pub robbed : Parts → ℕ → ℕ → Parts
 robbed p thief victim =
     put-part (put-part p victim (left-of (ends-at (p .ends) victim))) thief (taken-of (p .next) (ends-at (p .ends) victim))

@@ -1,6 +1,7 @@
 -- The proofs, by topic. Theorems has every law of a history on one page: a stranger reads it first.
 -- Lists, Readiness, Awaiting: lists and flags, when a task is ready, and how many predecessors it still awaits.
--- Stealing, Thefts: what a steal takes and leaves. Cycles, Placement, Bounds, Grants: what a worker's cycle, a tick's cycles and a grant keep.
+-- Stealing, Thefts: what a steal takes and leaves. Cycles, Placement, Bounds, Grants: what a worker's cycle, a tick's cycles and a grant
+-- keep.
 -- Accepted, Runs: accepted calls, and how a property is carried through a list of calls. Histories: where the tasks stand and how large the
 -- counts are after any calls. Progress: some worker works or mugs. Order: each task once and in order. Meaning: what the counts count.
 -- Counting: what a tick's cycles spend. Ladder: what is used of the desires, and that the powers of R have it. Powers: the open quantum,

@@ -1,5 +1,5 @@
--- What a steal takes of a deque, and what it leaves: half is taken, so never all. Of the number of stolen tasks the other laws and the code's
--- proofs know only that a steal does not take all. Then every deque after a steal that succeeds. Assumes nothing.
+-- What a steal takes of a deque, and what it leaves: half is taken, and so not all (`some-left`), which is all that the laws but `Thefts`
+-- and the code's proofs know of the number of stolen tasks. Then every deque after a steal that succeeds. Assumes nothing.
 use mathlib.Core.Path.{_≡_, sym, _∙_}
 use mathlib.Core.List.{List, [], _++_}
 use Prim.Native.Nat.{ℕ, _-_, _/_, _≤_, _<_}

@@ -95,8 +95,8 @@ ten =
     plan-bytes 2 1 1
     (task 2 1 2 ∷ task 2 3 4 ∷ task 1 7 0 ∷ task 2 5 6 ∷ task 1 7 0 ∷ task 1 8 0 ∷ task 1 8 0 ∷ task 1 9 0 ∷ task 1 9 0 ∷ task 0 0 0 ∷ [])
 
--- thirteen tasks: of 0, 1, 3 and 5 each is followed by two, of which the first leads on; the joins 9 to 12 take up what was forked last first.
--- A worker alone has 1, 2, then 3, 4, 2, then 5, 6, 4, 2, then 7, 8, 6, 4, 2 in its line
+-- thirteen tasks: 0 is followed by 1 and 2, 1 by 3 and 4, 3 by 5 and 6, 5 by 7 and 8; 9 joins 7 and 8, 10 joins 9 and 6, 11 joins 10 and 4,
+-- 12 joins 11 and 2. A worker alone has 1, 2, then 3, 4, 2, then 5, 6, 4, 2, then 7, 8, 6, 4, 2 in its line
 thirteen : List ℕ
 thirteen =
     plan-bytes 2 1 1

@@ -1,6 +1,6 @@
--- Request U1 as a statement: what a steal tick moves. "A successful steal shall take the back half of the victim's line, rounded down, in its
--- order, and it still needs two pieces there." It is of every execution, so also of those between two workers' cycles of one tick. It is
--- proved in the crate `laws`.
+-- Request U1 as a statement: what a steal tick moves. "A successful steal shall take the back half of the victim's line, rounded down, in
+-- its order, and it still needs two pieces there." It speaks of every execution, so also of those between two workers' cycles of one tick.
+-- It is proved in the crate `laws`.
 use mathlib.Core.Path.{_≡_}
 use mathlib.Core.List.{[], _++_}
 use Prim.Native.Nat.{ℕ, _/_, _≤_, _<_}

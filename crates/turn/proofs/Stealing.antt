@@ -1,4 +1,4 @@
--- A steal cycle: of a deque of two or more tasks the front part stays and the back part becomes the thief's deque; of any other nothing
+-- A steal cycle: of a deque of two or more tasks the front part stays and the back half becomes the thief's deque; of any other nothing
 -- moves.
 use mathlib.Core.Path.{_≡_, refl, sym, ap, _∙_}
 use mathlib.Core.List.{List, []}

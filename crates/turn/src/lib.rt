@@ -5,7 +5,7 @@ use tally::Tally;
 ghost use Rattle.turn.specs.Turns.{IdleTurn, Idled, TickTurn, Ticked};
 
 // One cycle of the worker `w`, whose deque is empty. A muggable deque that waits becomes its own, the oldest first. If none waits, it takes
-// the back part of the chosen worker's deque, of two or more tasks: a success. Of any other deque nothing moves.
+// the back half of the chosen worker's deque, of two or more tasks: one success. Of any other deque nothing moves.
 pub fn idle_cycle(
     memory: &mut Memory,
     words: &mut Words,

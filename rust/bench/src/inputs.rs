@@ -128,7 +128,7 @@ fn cycles(scene: &Scene) -> (usize, usize, usize) {
 }
 
 /// Of each steal of a scene's measured calls that succeeds: the tasks it takes, and those it leaves, which are the links that it follows.
-fn thefts(scene: &Scene) -> Vec<(usize, usize)> {
+fn thefts(scene: &Scene) -> Vec<(u16, u16)> {
     let mut job = Job::accept(&scene.plan).expect("the benchmark's plans are sound");
     run_log(&mut job, &scene.before);
     let mut thefts = Vec::new();
@@ -140,7 +140,7 @@ fn thefts(scene: &Scene) -> Vec<(usize, usize)> {
     thefts
 }
 
-fn theft(cycle: &Cycle) -> Option<(usize, usize)> {
+fn theft(cycle: &Cycle) -> Option<(u16, u16)> {
     match *cycle {
         Cycle::Steal { stolen, left, .. } if stolen > 0 => Some((stolen, left)),
         _ => None,
@@ -275,7 +275,7 @@ pub fn long_deque() -> Scene {
         timed: writer.bytes,
     };
     assert_eq!(cycles(&scene), (1, 0, 63), "one works");
-    let followed: Vec<usize> = thefts(&scene).iter().map(|&(_, left)| left).collect();
+    let followed: Vec<u16> = thefts(&scene).iter().map(|&(_, left)| left).collect();
     assert_eq!(followed, [150, 75, 38, 19, 10, 5, 3, 2, 1], "300 tasks");
     scene
 }

@@ -104,7 +104,7 @@ impl Totals {
     pub fn count_thefts(&mut self, cycles: &[Cycle]) {
         for cycle in cycles {
             if let Cycle::Steal { stolen, .. } = *cycle {
-                add(&mut self.thefts, stolen.min(4));
+                add(&mut self.thefts, usize::from(stolen.min(4)));
             }
         }
     }

@@ -116,8 +116,8 @@ pub enum Cycle {
     /// so many left to the victim. In vain if none was stolen.
     Steal {
         victim: usize,
-        stolen: usize,
-        left: usize,
+        stolen: u16,
+        left: u16,
     },
 }
 
@@ -385,7 +385,7 @@ impl Job {
     /// before, so choosing itself is in vain.
     fn steal(&mut self, thief: usize, victim: usize) -> Cycle {
         let taken = self.rules.theft.take(&mut self.deques[victim]);
-        let (stolen, left) = (taken.len(), self.deques[victim].len());
+        let (stolen, left) = (taken.len() as u16, self.deques[victim].len() as u16);
         if stolen > 0 {
             self.deques[thief] = taken;
         }

@@ -98,9 +98,9 @@ impl Theft {
     }
 
     /// The successes of a steal that took so many tasks.
-    pub fn successes(self, taken: usize) -> u64 {
+    pub fn successes(self, taken: u16) -> u64 {
         if self.each_succeeds {
-            taken as u64
+            u64::from(taken)
         } else {
             u64::from(taken > 0)
         }
