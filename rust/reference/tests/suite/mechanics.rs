@@ -5,7 +5,16 @@ use reference::{Job, OpenQuantum, Status};
 
 use super::{hex, job, PLAN_A};
 
-/// Ten tasks: two levels of forks, two levels of joins; quanta of one tick.
+/// A job with quanta of one tick, from the successors of its tasks.
+fn drawn(successors: &[&[u16]], utilization: u64) -> Job {
+    let graph = successors.iter().map(|list| list.to_vec()).collect();
+    let mut draft = Draft::of_graph(&graph);
+    draft.quantum_length = 1;
+    draft.utilization = utilization;
+    job(&draft.bytes())
+}
+
+/// Ten tasks: two levels of forks, two levels of joins.
 fn tree() -> Job {
     let successors: [&[u16]; 10] = [
         &[1, 2],
@@ -19,10 +28,7 @@ fn tree() -> Job {
         &[9],
         &[],
     ];
-    let graph = successors.iter().map(|list| list.to_vec()).collect();
-    let mut draft = Draft::of_graph(&graph);
-    draft.quantum_length = 1;
-    job(&draft.bytes())
+    drawn(&successors, 80)
 }
 
 /// A grant and one tick, both accepted.
@@ -81,10 +87,7 @@ fn comb() -> Job {
         &[12],
         &[],
     ];
-    let graph = successors.iter().map(|list| list.to_vec()).collect();
-    let mut draft = Draft::of_graph(&graph);
-    (draft.quantum_length, draft.utilization) = (1, 1);
-    job(&draft.bytes())
+    drawn(&successors, 1)
 }
 
 #[test]
