@@ -14,7 +14,7 @@ pub record Thief (e : Execution) (w : ℕ) : Type 0 where
   pub empty : deque-of e w ≡ []
   pub none-waits : e .muggable ≡ []
 
--- a steal tick, with 1 success or 0: what no steal tick moves
+-- a steal tick counts itself, with 1 success or 0, and no piece is worked, no orphan moves, no worker comes or goes
 pub record StealTick (success : ℕ) (before after : Execution) : Type 0 where
   pub counted : after .counts ≡ counted-steal success (before .counts)
   pub same-worked : after .worked ≡ before .worked
@@ -29,14 +29,15 @@ pub record Theft (before after : Execution) (thief victim : ℕ) : Type 0 where
   pub parted : deque-of after victim ++ deque-of after thief ≡ deque-of before victim
   -- it is half of the victim's deque, rounded down
   pub half : length (deque-of after thief) ≡ length (deque-of before victim) / 2
+  -- no other worker's deque (line) moves
   pub others : (w : ℕ) → (w ≡ thief → ⊥) → (w ≡ victim → ⊥) → deque-of after w ≡ deque-of before w
 
--- a steal in vain
+-- a steal in vain: "If not, nothing moves."
 pub record Vain (before after : Execution) : Type 0 where
   pub no-success : StealTick 0 before after
   pub same-deques : after .deques ≡ before .deques
 
--- by what the chosen worker's deque has
+-- what the chosen worker's deque has decides: two or more tasks, or fewer
 pub record StealsHalf (graph : Graph) : Type 0 where
   pub takes-half : (e : Execution) (thief victim : ℕ) → Thief e thief → 2 ≤ length (deque-of e victim) →
       Theft e (cycle graph thief victim e) thief victim

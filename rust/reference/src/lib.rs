@@ -4,7 +4,8 @@
 //! compared with it.
 //!
 //! Reading order, which is document 01's: [`plan`], [`job`] (grant and tick),
-//! [`theft`] (what a steal takes), [`quantum`] (round's end), [`log`], [`label`], [`counters`], [`program`].
+//! [`theft`] (what a steal takes), [`quantum`] (round's end), [`log`],
+//! [`label`], [`counters`], [`program`].
 //! [`generator`] makes random plans and logs from a seed and [`coverage`]
 //! counts what they reach. [`stored`] chooses a set of cases to be kept.
 //!

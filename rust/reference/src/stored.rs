@@ -132,10 +132,15 @@ fn counted() -> Vec<Vec<u8>> {
     counts.iter().map(log).collect()
 }
 
-/// Lines of three to ten tasks that one thief robs, and one of 300 that 63
-/// thieves rob in one tick.
+/// Forks nested in each other leave a task each in the line, and each takes a
+/// join: so the most that a plan has, and then the longest line there can be.
+const MOST_FORKS: usize = (MOST_TASKS - 1) / 3;
+
+/// Lines of three to ten tasks that one thief robs, and the longest there can
+/// be, which 63 thieves rob in one tick.
 fn robbed() -> Vec<Vec<u8>> {
-    let lines = (3..=10).map(|size| (size, 2)).chain([(300, 64)]);
+    let longest = (MOST_FORKS + 1, MOST_WORKERS);
+    let lines = (3..=10).map(|size| (size, 2)).chain([longest]);
     lines
         .map(|(size, workers)| thieves(size, workers))
         .collect()
@@ -143,10 +148,10 @@ fn robbed() -> Vec<Vec<u8>> {
 
 /// The desire climbs to the number of workers, in steal cycles in vain; worker
 /// 0 alone goes on until one more work cycle gives its line this size; then all
-/// others steal from it, in that tick and in the next; at the end two workers
+/// others steal from it, in that tick and in seven more; then two workers
 /// finish the job.
 fn thieves(size: usize, workers: usize) -> Vec<u8> {
-    let mut draft = Draft::of_graph(&nested(size + 3));
+    let mut draft = Draft::of_graph(&nested(MOST_FORKS.min(size + 3)));
     draft.utilization = 1;
     draft.quantum_length = 1;
     let plan = draft.bytes();

@@ -51,22 +51,12 @@ fn example_7_thief_takes_the_back() {
     assert_eq!(job.counters(0).successes, 1);
 }
 
-/// Thirteen tasks: worker 0 alone has 5, 6, 4, 2 in its deque after three of them, and then 7, 8, 6, 4, 2.
-const NESTED: [&[u32]; 13] = [
-    &[1, 2],
-    &[3, 4],
-    &[12],
-    &[5, 6],
-    &[11],
-    &[7, 8],
-    &[10],
-    &[9],
-    &[9],
-    &[10],
-    &[11],
-    &[12],
-    &[],
-];
+/// A job of the plan of `examples/half-a-line.in`, behind its length in two bytes: thirteen tasks, of which worker 0 alone has 5, 6, 4, 2 in
+/// its deque after three, and 7, 8, 6, 4, 2 after four.
+fn nested() -> Job {
+    let input = include_bytes!("../../../../examples/half-a-line.in");
+    job(&input[2..2 + usize::from(input[1])])
+}
 
 #[test]
 fn a_thief_takes_the_back_half_in_its_order() {
@@ -74,7 +64,7 @@ fn a_thief_takes_the_back_half_in_its_order() {
         ("01 81 00 01 81 00 02", vec![5, 6], vec![4, 2]),
         ("01 81 00 01 81 00 01 81 00 02", vec![7, 8, 6], vec![4, 2]),
     ] {
-        let mut job = job(&plan(2, 1, 1, &NESTED));
+        let mut job = nested();
         assert_eq!(job.run_log(&hex(log)).refused_calls, 0);
         assert_eq!(job.tick(&[0, 0]), Ok(()));
         assert_eq!(State::of(&job).deques, [left, taken]);
@@ -84,7 +74,7 @@ fn a_thief_takes_the_back_half_in_its_order() {
 
 #[test]
 fn three_thieves_in_one_tick() {
-    let mut job = job(&plan(2, 1, 1, &NESTED));
+    let mut job = nested();
     let run = job.run_log(&hex("01 81 00 01 81 00 02 82 00 01 04 84 00 00 00 01"));
     assert_eq!(run.refused_calls, 0);
     assert_eq!(

@@ -4,7 +4,7 @@ use reference::coverage::{Coverage, BRANCHES};
 use reference::stored::{stored_cases, stored_set, KEPT_SEED};
 use reference::theft::BENT;
 use reference::{counters_text, program_output, read_plan, run_log, run_log_with, split_input};
-use reference::{Entries, Job, Refusal, Rules, Status, Theft, MOST_QUANTA};
+use reference::{Cycle, Entries, Job, Refusal, Report, Rules, Status, Theft, MOST_QUANTA};
 
 /// The kept set, which the crate `vectors` runs, and what it must write.
 const KEPT: &[u8] = include_bytes!("../../../../crates/vectors/stdin");
@@ -134,6 +134,39 @@ fn kept_set_has_numbers_on_both_sides_of_a_power_of_ten() {
     for power in [10, 100, 1_000, 10_000] {
         assert!(lasts.contains(&(power - 1)) && lasts.contains(&power));
     }
+}
+
+/// The sizes of the lines that a case's thieves rob with success, each with the
+/// number of granted workers.
+fn robbed(input: &[u8]) -> Vec<(u16, usize)> {
+    let mut lines = Vec::new();
+    let job = split_input(input).and_then(|(plan, log)| Ok((Job::accept(plan)?, log)));
+    if let Ok((mut job, log)) = job {
+        run_log_with(&mut job, log, |job, _, answer| {
+            let Ok(Report::Tick(report)) = answer else {
+                return;
+            };
+            for cycle in &report.cycles {
+                match *cycle {
+                    Cycle::Steal { stolen, left, .. } if stolen > 0 => {
+                        lines.push((stolen + left, job.allotment()));
+                    }
+                    _ => (),
+                }
+            }
+        });
+    }
+    lines
+}
+
+#[test]
+fn kept_set_has_thefts_from_short_lines_and_the_longest() {
+    let lines: Vec<_> = kept().iter().flat_map(|(input, _)| robbed(input)).collect();
+    for size in 3..=10 {
+        assert!(lines.contains(&(size, 2)), "no line of {size} is robbed");
+    }
+    assert!(lines.contains(&(342, 64)));
+    assert!(lines.iter().all(|&(size, _)| size <= 342));
 }
 
 /// Whether a case's line is another one where steals follow that rule.
