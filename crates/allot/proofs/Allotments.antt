@@ -5,12 +5,12 @@ use mathlib.Core.List.{List, [], _∷_, _++_}
 use Prim.Native.Nat.{ℕ, zero, suc, _≤_, _<_}
 use native.Mathlib.Omega.{arith}
 use native.Mathlib.Nat.{sub-zero}
-use lib.ListN.{length, drop, set}
+use lib.ListN.{length, drop, set, length-reverse}
 use borrow.Author.Tests.{eq-eqb, ne-eqb}
-use Rattle.model.specs.Tests.{below}
+use Rattle.model.specs.Tests.{below, keep}
 use Rattle.model.specs.Machine.{grant, kept-deques, withdrawn-deques, place-first-task, first-task-placed}
 use Rattle.laws.specs.Invariants.{busy}
-use Rattle.laws.proofs.Deques.{busy-non-empty, busy-split}
+use Rattle.laws.proofs.Deques.{non-empty, busy-non-empty, busy-split}
 use Rattle.memory.specs.declared.Deque.{Deque}
 use Rattle.memory.specs.Parts.{Parts, parts, SameButEnds}
 use Rattle.memory.specs.Words.{word, word-count, Numbers, numbers-in, started-in, SameTail}
@@ -55,7 +55,7 @@ first-placed (suc n) ds h e = rw (e, sub-zero) refl
 
 busy-withdrawn : (g : ℕ) (ds : List (List ℕ)) → length (withdrawn-deques g ds) ≤ busy ds
 unfolding withdrawn-deques
-busy-withdrawn g ds = omega (arith, busy-non-empty (drop g ds), busy-split g ds)
+busy-withdrawn g ds = omega (arith, length-reverse (keep non-empty (drop g ds)), busy-non-empty (drop g ds), busy-split g ds)
 
 -- ---- the grant
 

@@ -80,8 +80,7 @@ module _ {ends : List ℕ} {head waiting worker : ℕ} (j : Joinable ends head w
   join-empty empty =
       record {
         places = j .places;
-        at-end = λ next.
-            rw (none-kept (deque-at next ends worker) (deque-length next ends worker ∙ empty), append-nil);
+        at-end = λ next. simp (none-kept (deque-at next ends worker) (deque-length next ends worker ∙ empty), append-nil);
         workers-stay = λ next k few. refl;
       }
 

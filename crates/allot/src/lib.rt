@@ -24,7 +24,8 @@ fn join(memory: &mut Memory, head: usize, waiting: usize, worker: usize) -> usiz
     waiting + 1
 }
 
-// "workers g and up are withdrawn; their non-empty lines join the end of the orphans in rising worker order". How many wait then.
+// "workers g and up are withdrawn; their non-empty lines join the end of the orphans", the highest worker's first (request U8). How many
+// wait then.
 fn withdraw(memory: &mut Memory, head: usize, waiting: usize, g: usize, workers: usize) -> usize
     requires { ⌜ Withdrawable (parts (now memory) .ends) head waiting g workers ⌝ }
     ensures joined { λ r. ⌜ Joined head (parts-before memory .ends) waiting (parts-after memory .ends) r
@@ -32,10 +33,10 @@ fn withdraw(memory: &mut Memory, head: usize, waiting: usize, g: usize, workers:
     ensures rest { λ _. ⌜ SameButEnds (parts-before memory) (parts-after memory) ⌝ }
 {
     let mut joined = waiting;
-    let mut worker = g;
-    while worker < workers {
+    let mut worker = workers;
+    while g < worker {
+        worker -= 1;
         joined = join(memory, head, joined, worker);
-        worker += 1;
     }
     joined
 }

@@ -2,7 +2,7 @@
 -- Assumes nothing.
 use mathlib.Core.Path.{_≡_, refl, sym, ap, _∙_}
 use mathlib.Core.Bool.{Bool, true, false, cond, not}
-use mathlib.Core.List.{List, [], _∷_, _++_, List·Memᴰ, List·Memᴰ·head, List·Memᴰ·tail}
+use mathlib.Core.List.{List, [], _∷_, _++_, reverse, reverse-cons, List·Memᴰ, List·Memᴰ·head, List·Memᴰ·tail}
 use Prim.Native.Nat.{ℕ, zero, suc, _+_, _≤_, _<_}
 use native.Mathlib.Nat.{le-of-suc-le-suc, not-suc-le-zero}
 use native.Mathlib.Omega.{arith}
@@ -92,6 +92,13 @@ pub in-deques-append : (t : ℕ) (ds es : List (List ℕ)) → in-deques t (ds +
 unfolding in-deques
 in-deques-append t [] es = omega arith
 in-deques-append t (d ∷ ds) es = omega (arith, in-deques-append t ds es)
+
+-- deques in reverse hold what they held
+pub in-deques-reverse : (t : ℕ) (ds : List (List ℕ)) → in-deques t (reverse ds) ≡ in-deques t ds
+unfolding in-deques
+in-deques-reverse t [] = refl
+in-deques-reverse t (d ∷ ds) =
+    rw (reverse-cons d ds) (omega (arith, in-deques-append t (reverse ds) (d ∷ []), in-deques-reverse t ds))
 
 pub in-deques-split : (t n : ℕ) (ds : List (List ℕ)) → in-deques t (take n ds) + in-deques t (drop n ds) ≡ in-deques t ds
 in-deques-split t n ds = sym (in-deques-append t (take n ds) (drop n ds)) ∙ ap (in-deques t) (take-append-drop n ds)

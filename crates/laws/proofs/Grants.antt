@@ -8,7 +8,7 @@ use Prim.Native.Nat.{ℕ, zero, suc, _+_, _-_, _≤_, max}
 use native.Mathlib.Nat.{not-suc-le-zero, sub-zero}
 use native.Mathlib.Omega.{arith}
 use lib.Dec.{eqb, ltb}
-use lib.ListN.{length, take, drop, replicate, length-append, length-take, length-replicate}
+use lib.ListN.{length, take, drop, replicate, length-append, length-take, length-replicate, length-reverse}
 use borrow.Author.Tests.{ltb-true, ltb-false, ne-eqb}
 use Rattle.model.specs.Tests.{every, keep}
 use Rattle.model.specs.Plan.{Graph, tasks}
@@ -17,9 +17,10 @@ use Rattle.model.specs.Statements.{SoundGraph}
 use Rattle.laws.specs.Invariants.{occurrences, in-deques, busy, waiting-work, Placed, Bounded}
 use Rattle.laws.specs.Reached.{Unstarted}
 use Rattle.lists.proofs.Tests.{true-is-not-false}
-use Rattle.laws.proofs.Deques.{non-empty, in-deques-append, in-deques-split, in-deques-non-empty, in-deques-empty}
-use Rattle.lists.proofs.Lists.{every-append, kept-passes, alike}
+use Rattle.laws.proofs.Deques.{non-empty, in-deques-append, in-deques-reverse, in-deques-split, in-deques-non-empty, in-deques-empty}
+use Rattle.lists.proofs.Lists.{every-append, every-reverse, kept-passes, alike}
 use Rattle.laws.proofs.Deques.{busy-append, busy-split, busy-non-empty, busy-empty, busy-at-most}
+use Rattle.laws.proofs.Withdrawals.{none-withdrawn}
 use Rattle.laws.proofs.Readiness.{is-waiting, first-ready, others-not-ready, not-waiting-unready, not-waiting-outside}
 
 -- ---- kept and withdrawn deques
@@ -41,6 +42,7 @@ module _ (g : ℕ) (ds : List (List ℕ)) where
         arith,
         in-deques-append t (take g ds) new-deques,
         in-deques-empty t (g - length ds),
+        in-deques-reverse t (keep non-empty (drop g ds)),
         in-deques-non-empty t (drop g ds),
         in-deques-split t g ds,
       )
@@ -52,23 +54,19 @@ module _ (g : ℕ) (ds : List (List ℕ)) where
         arith,
         busy-append (take g ds) new-deques,
         busy-empty (g - length ds),
+        length-reverse (keep non-empty (drop g ds)),
         busy-non-empty (drop g ds),
         busy-split g ds,
       )
 
   pub withdrawn-filled : every non-empty (withdrawn-deques g ds) ≡ true
   unfolding withdrawn-deques
-  withdrawn-filled = kept-passes non-empty (drop g ds)
+  withdrawn-filled = every-reverse non-empty (keep non-empty (drop g ds)) (kept-passes non-empty (drop g ds))
 
 -- the first workers' deques are empty
 first-deques : (n : ℕ) → kept-deques (suc n) [] ≡ [] ∷ replicate n []
 unfolding kept-deques
 first-deques n = rw (sub-zero (suc n)) refl
-
-none-withdrawn : (g : ℕ) → withdrawn-deques g [] ≡ []
-unfolding withdrawn-deques keep
-none-withdrawn zero = refl
-none-withdrawn (suc n) = refl
 
 place-first-length : (ds : List (List ℕ)) → length (place-first-task ds) ≡ length ds
 place-first-length [] = refl
@@ -157,7 +155,7 @@ module _ {graph : Graph} (s : State) (off : s .started ≡ false) (u : Unstarted
   unfolding grant first-task-placed every in-deques occurrences
   first-grant-placed sound zero l = absurd (not-suc-le-zero l)
   first-grant-placed sound (suc n) l =
-      rw (off, u .no-deques, u .no-muggable, u .none-worked, first-deques n, none-withdrawn (suc n))
+      rw (off, u .no-deques, u .no-muggable, u .none-worked, first-deques n, none-withdrawn (suc n) [] (omega arith))
       (record {
         flags = length-replicate (tasks graph) false;
         once = λ t. omega (arith, in-deques-empty t n, ap (λ (b : Bool). cond {A = ℕ} b 1 0) (first-waiting sound t));
@@ -170,7 +168,7 @@ module _ {graph : Graph} (s : State) (off : s .started ≡ false) (u : Unstarted
   first-grant-bounded zero l = absurd (not-suc-le-zero l)
   first-grant-bounded (suc n) l =
       let none : List ℕ = [] in
-      rw (off, u .no-deques, u .no-muggable, first-deques n, none-withdrawn (suc n))
+      rw (off, u .no-deques, u .no-muggable, first-deques n, none-withdrawn (suc n) [] (omega arith))
       (record {
         workers = omega (arith, length-replicate n none);
         lines = omega (arith, busy-empty n);
@@ -180,5 +178,5 @@ module _ {graph : Graph} (s : State) (off : s .started ≡ false) (u : Unstarted
   pub no-grant-unstarted : Unstarted graph (grant 0 s .execution)
   unfolding grant first-task-placed kept-deques
   no-grant-unstarted =
-      rw (off, u .no-deques, u .no-muggable, u .none-worked, none-withdrawn 0)
+      rw (off, u .no-deques, u .no-muggable, u .none-worked, none-withdrawn 0 [] (omega arith))
       (record { none-worked = refl; no-deques = refl; no-muggable = refl })

@@ -1,7 +1,7 @@
 -- The proofs, by topic. Theorems has every law of a history on one page: a stranger reads it first.
 -- Lists, Readiness, Awaiting: lists and flags, when a task is ready, and how many predecessors it still awaits.
--- Stealing, Thefts: what a steal takes and leaves. Cycles, Placement, Bounds, Grants: what a worker's cycle, a tick's cycles and a grant
--- keep.
+-- Stealing, Thefts: what a steal takes and leaves. Withdrawals, Muggings: in which order a grant withdraws deques, and they are mugged.
+-- Cycles, Placement, Bounds, Grants: what a worker's cycle, a tick's cycles and a grant keep.
 -- Accepted, Runs: accepted calls, and how a property is carried through a list of calls. Histories: where the tasks stand and how large the
 -- counts are after any calls. Progress: some worker works or mugs. Order: each task once and in order. Meaning: what the counts count.
 -- Counting: what a tick's cycles spend. Ladder: what is used of the desires, and that the powers of R have it. Powers: the open quantum,
@@ -9,6 +9,7 @@
 -- PairingLaw: the partners of the inefficient quanta. MugLimitLaw: the balance that bounds the mugs. SpentLaw: what the quanta so far have
 -- used, and what 13 tells. Carried: these in one induction.
 pub mod Deques
+pub mod Withdrawals
 pub mod Stealing
 pub mod Readiness
 pub mod Awaiting
@@ -18,6 +19,7 @@ pub mod Placement
 pub mod Bounds
 pub mod Accepted
 pub mod Runs
+pub mod Muggings
 pub mod Meaning
 pub mod Counting
 pub mod Grants

@@ -25,7 +25,7 @@ unfolding run
 run-snoc plan calls call = run-from-snoc plan calls (beginning plan) call
 
 -- the history's state makes the state's step
-step-state : (plan : Plan) (call : Call) (h : History) → history-step plan call h .state ≡ step plan call (h .state)
+pub step-state : (plan : Plan) (call : Call) (h : History) → history-step plan call h .state ≡ step plan call (h .state)
 unfolding history-step step history-grant history-tick
 step-state plan call h = go (call-answer call (h .state))
   where

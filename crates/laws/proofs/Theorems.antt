@@ -9,6 +9,7 @@ use Rattle.model.specs.History.{run}
 use Rattle.model.specs.Statements.{SoundPlan, Progress, Demand3, MugBound, OneIsEfficient, DesireIsPower, OnceAndInOrder, FinishedExactly}
 use Rattle.model.specs.Statements.{StopsAtTop, EndsAsRecorded}
 use Rattle.model.specs.Thefts.{StealsHalf}
+use Rattle.model.specs.Muggings.{MuggedInTurn}
 use Rattle.laws.specs.Invariants.{Bounded}
 use Rattle.laws.specs.Reached.{Arranged, Measured, CountsFit, largest-granted}
 use Rattle.laws.specs.Spent.{SpentOnly}
@@ -26,6 +27,7 @@ use Rattle.laws.proofs.Order as Order
 use Rattle.laws.proofs.Histories as Histories
 use Rattle.laws.proofs.Meaning as Meaning
 use Rattle.laws.proofs.Thefts as Thefts
+use Rattle.laws.proofs.Muggings as Muggings
 
 module _ {plan : Plan} (sound : SoundPlan plan) (calls : List Call) where
   -- "While a job is unfinished, each tick with a worker granted does at least one work or mug tick."
@@ -114,3 +116,8 @@ module _ {plan : Plan} (sound : SoundPlan plan) (calls : List Call) where
   -- every execution, so also between two workers' cycles of one tick
   pub steals-half : StealsHalf (plan .graph)
   steals-half = Thefts.steals-half (plan .graph)
+
+  -- "Among lines orphaned by the same grant, the highest worker number is now taken first. Lines of an earlier grant still come before them":
+  -- what was mugged so far, and then what waits, is what all grants so far withdrew, each of them in falling worker order
+  pub mugged-in-turn : MuggedInTurn plan calls
+  mugged-in-turn = Muggings.mugged-in-turn plan calls

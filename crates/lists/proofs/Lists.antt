@@ -3,8 +3,8 @@
 use mathlib.Core.Path.{_≡_, refl, sym, ap, _∙_}
 use mathlib.Core.Logic.{_⊎_, inl, inr}
 use mathlib.Core.Bool.{Bool, true, false, cond}
-use mathlib.Core.List.{List, [], _∷_, _++_, List·Memᴰ, List·Memᴰ·head, List·Memᴰ·tail, List·Memᴰ·not-nil, List·Memᴰ·cases-cons}
-use mathlib.Core.List.{List·Memᴰ·append-cases, Memᴰ·append-left, Memᴰ·append-right, List·Memᴰ·eq-of-singleton}
+use mathlib.Core.List.{List, [], _∷_, _++_, reverse, reverse-cons, List·Memᴰ, List·Memᴰ·head, List·Memᴰ·tail, List·Memᴰ·not-nil}
+use mathlib.Core.List.{List·Memᴰ·cases-cons, List·Memᴰ·append-cases, Memᴰ·append-left, Memᴰ·append-right, List·Memᴰ·eq-of-singleton}
 use Prim.Native.Nat.{ℕ, zero, suc, _+_, _≤_, _<_}
 use native.Mathlib.Nat.{le-of-suc-le-suc, not-suc-le-zero}
 use native.Mathlib.Omega.{arith}
@@ -62,6 +62,24 @@ module _ {A : Type 0} (test : A → Bool) where
   every-append (x ∷ xs) ys p q =
       both (test x) (every test (xs ++ ys)) (and-left (test x) (every test xs) p)
       (every-append xs ys (and-right (test x) (every test xs) p) q)
+
+  pub every-reverse : (xs : List A) → every test xs ≡ true → every test (reverse xs) ≡ true
+  unfolding every
+  every-reverse [] p = refl
+  every-reverse (x ∷ xs) p =
+      rw (reverse-cons x xs)
+      (every-append (reverse xs) (x ∷ []) (every-reverse xs (and-right (test x) (every test xs) p))
+      (both (test x) true (and-left (test x) (every test xs) p) refl))
+
+  pub keep-append : (xs ys : List A) → keep test (xs ++ ys) ≡ keep test xs ++ keep test ys
+  unfolding keep
+  keep-append [] ys = refl
+  keep-append (x ∷ xs) ys = by (keep-append xs ys) (test x)
+    where
+      by : keep test (xs ++ ys) ≡ keep test xs ++ keep test ys → (b : Bool) →
+          cond b (x ∷ keep test (xs ++ ys)) (keep test (xs ++ ys)) ≡ cond b (x ∷ keep test xs) (keep test xs) ++ keep test ys
+      by rest true = ap (λ l. x ∷ l) rest
+      by rest false = rest
 
   pub kept-passes : (xs : List A) → every test (keep test xs) ≡ true
   unfolding every keep

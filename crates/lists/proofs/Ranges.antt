@@ -11,7 +11,7 @@ use native.Mathlib.Numerals.{add-one}
 use lib.ListN.{length, getD, drop, length-append}
 use lib.Seq.{drop-append-le}
 use Rattle.model.specs.Tests.{below, every, keep}
-use Rattle.lists.proofs.Lists.{at-place, kept-from}
+use Rattle.lists.proofs.Lists.{at-place, keep-append, kept-from}
 
 -- ---- below
 
@@ -79,16 +79,6 @@ every-from-one test t l =
     ap (every test) (drop-append-le 1 (below t) (t ∷ []) (omega (arith, length-below t))) ∙ every-append test (drop 1 (below t)) t
 
 -- ---- keep
-
-keep-append : (test : ℕ → Bool) (xs ys : List ℕ) → keep test (xs ++ ys) ≡ keep test xs ++ keep test ys
-unfolding keep
-keep-append test [] ys = refl
-keep-append test (x ∷ xs) ys = by (keep-append test xs ys) (test x)
-  where
-    by : keep test (xs ++ ys) ≡ keep test xs ++ keep test ys → (b : Bool) →
-        cond b (x ∷ keep test (xs ++ ys)) (keep test (xs ++ ys)) ≡ cond b (x ∷ keep test xs) (keep test xs) ++ keep test ys
-    by rest true = ap (λ l. x ∷ l) rest
-    by rest false = rest
 
 pub keep-cong : (f g : ℕ → Bool) (xs : List ℕ) → ((t : ℕ) → List·Memᴰ t xs → f t ≡ g t) → keep f xs ≡ keep g xs
 unfolding keep

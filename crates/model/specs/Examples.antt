@@ -103,6 +103,14 @@ thirteen =
     (task 2 1 2 ∷ task 2 3 4 ∷ task 1 12 0 ∷ task 2 5 6 ∷ task 1 11 0 ∷ task 2 7 8 ∷ task 1 10 0 ∷ task 1 9 0 ∷ task 1 9 0 ∷ task 1 10 0
     ∷ task 1 11 0 ∷ task 1 12 0 ∷ task 0 0 0 ∷ [])
 
+-- thirteen tasks: 0 is followed by 1 and 2, 1 by 3 and 4, 2 by 5 and 6, 3 by 7, 5 by 9, 7 by 8; 10 joins 4 and 8, 11 joins 6 and 9,
+-- 12 joins 10 and 11. Four workers have a line each, and two of them after their next tick, too
+four-lines : List ℕ
+four-lines =
+    plan-bytes 2 1 1
+    (task 2 1 2 ∷ task 2 3 4 ∷ task 2 5 6 ∷ task 1 7 0 ∷ task 1 10 0 ∷ task 1 9 0 ∷ task 1 11 0 ∷ task 1 8 0 ∷ task 1 10 0 ∷ task 1 11 0
+    ∷ task 1 12 0 ∷ task 1 12 0 ∷ task 0 0 0 ∷ [])
+
 -- N tasks in a chain
 link : ℕ → ℕ → List ℕ
 link n t = cond (eqb (t + 1) n) (task 0 0 0) (task 1 (t + 1) 0)
@@ -233,6 +241,19 @@ three-thieves : List Call
 three-thieves =
     grants 1 ∷ ticks (0 ∷ []) ∷ grants 1 ∷ ticks (0 ∷ []) ∷ grants 2 ∷ ticks (0 ∷ 1 ∷ []) ∷ grants 4 ∷ ticks (0 ∷ 0 ∷ 0 ∷ 1 ∷ []) ∷ []
 
+-- of the seven tasks worker 0 has 3 and 4, and worker 1 has robbed it of 2; a grant of 0 withdraws both
+two-withdrawn : List Call
+two-withdrawn = grants 1 ∷ ticks (0 ∷ []) ∷ grants 2 ∷ ticks (0 ∷ 0 ∷ []) ∷ grants 0 ∷ []
+
+-- worker 1 has robbed worker 0, and then worker 3 robs worker 1, and worker 2 the one that it chooses
+four-at-work : ℕ → List Call
+four-at-work choice =
+    grants 1 ∷ ticks (0 ∷ []) ∷ grants 2 ∷ ticks (0 ∷ 0 ∷ []) ∷ grants 4 ∷ ticks (0 ∷ 0 ∷ choice ∷ 1 ∷ []) ∷ []
+
+-- workers 2 and 3 are withdrawn, and a tick later workers 0 and 1
+two-grants : List Call
+two-grants = four-at-work 0 ++ (grants 2 ∷ ticks (0 ∷ 0 ∷ []) ∷ grants 0 ∷ [])
+
 statuses-from : Plan → State → List Call → List ℕ
 statuses-from plan s [] = status s ∷ []
 statuses-from plan s (call ∷ calls) = status s ∷ statuses-from plan (step plan call s) calls
@@ -306,19 +327,32 @@ grant-rows =
     ∷ row (shown plan-a (1 ∷ 0x81 ∷ 0 ∷ [])) (1 ∷ 1 ∷ 4 ∷ 1 ∷ 1 ∷ 1 ∷ 0 ∷ 0 ∷ 0 ∷ 0 ∷ [])
     -- also after rounds of 0
     ∷ row (placed plan-a (grants 0 ∷ ticks [] ∷ ticks [] ∷ grants 1 ∷ [])) (1 ∷ 0 ∷ [])
-    -- withdrawn lines in rising worker order
-    ∷ row (placed (seven 1) (grants 1 ∷ ticks (0 ∷ []) ∷ grants 2 ∷ ticks (0 ∷ 0 ∷ []) ∷ grants 0 ∷ [])) (2 ∷ 3 ∷ 4 ∷ 1 ∷ 2 ∷ [])
     -- a worker that comes back has an empty line
-    ∷ row (placed (seven 1) (grants 1 ∷ ticks (0 ∷ []) ∷ grants 2 ∷ ticks (0 ∷ 0 ∷ []) ∷ grants 0 ∷ ticks [] ∷ grants 1 ∷ []))
-    (0 ∷ 2 ∷ 3 ∷ 4 ∷ 1 ∷ 2 ∷ [])
-    -- the oldest orphan is picked up, whole
-    ∷ row (placed (seven 1)
-    (grants 1 ∷ ticks (0 ∷ []) ∷ grants 2 ∷ ticks (0 ∷ 0 ∷ []) ∷ grants 0 ∷ ticks [] ∷ grants 1 ∷ ticks (0 ∷ []) ∷ []))
-    (2 ∷ 3 ∷ 4 ∷ 1 ∷ 2 ∷ [])
+    ∷ row (placed (seven 1) (two-withdrawn ++ (ticks [] ∷ grants 1 ∷ []))) (0 ∷ 1 ∷ 2 ∷ 2 ∷ 3 ∷ 4 ∷ [])
     -- an empty line of a withdrawn worker vanishes
     ∷ row (placed (chain 2 80 1 4) (grants 1 ∷ ticks (0 ∷ []) ∷ grants 2 ∷ ticks (0 ∷ 0 ∷ []) ∷ grants 0 ∷ [])) (1 ∷ 2 ∷ [])
     -- a new worker has an empty line
     ∷ row (placed (chain 2 80 1 4) (grants 1 ∷ ticks (0 ∷ []) ∷ grants 2 ∷ [])) (1 ∷ 1 ∷ 0 ∷ [])
+    ∷ []
+
+-- request U8: "Among lines orphaned by the same grant, the highest worker number is now taken first."
+withdrawal-rows : List Row
+withdrawal-rows =
+    -- two lines of one grant: worker 1's, 2, is before worker 0's, 3 and 4, which stays in its order
+    row (placed (seven 1) two-withdrawn) (1 ∷ 2 ∷ 2 ∷ 3 ∷ 4 ∷ [])
+    -- the oldest orphan is picked up, and the next one after it, whole
+    ∷ row (placed (seven 1) (two-withdrawn ++ (ticks [] ∷ grants 1 ∷ ticks (0 ∷ []) ∷ []))) (1 ∷ 2 ∷ 2 ∷ 3 ∷ 4 ∷ [])
+    ∷ row (placed (seven 1) (two-withdrawn ++ (ticks [] ∷ grants 2 ∷ ticks (0 ∷ 0 ∷ []) ∷ []))) (1 ∷ 2 ∷ 2 ∷ 3 ∷ 4 ∷ [])
+    -- four workers have the lines 7, 5, 4 and 6
+    ∷ row (placed four-lines (four-at-work 0)) (1 ∷ 7 ∷ 1 ∷ 5 ∷ 1 ∷ 4 ∷ 1 ∷ 6 ∷ [])
+    -- two grants one after the other with two lines each: workers 3 and 2, whose lines are 6 and 4, then workers 1 and 0 with 9 and 8
+    ∷ row (placed four-lines (four-at-work 0 ++ (grants 2 ∷ ticks (0 ∷ 0 ∷ []) ∷ []))) (1 ∷ 8 ∷ 1 ∷ 9 ∷ 1 ∷ 6 ∷ 1 ∷ 4 ∷ [])
+    ∷ row (placed four-lines two-grants) (1 ∷ 6 ∷ 1 ∷ 4 ∷ 1 ∷ 9 ∷ 1 ∷ 8 ∷ [])
+    -- "Lines of an earlier grant still come before them": a worker takes 6, four take 6, 4, 9 and 8
+    ∷ row (placed four-lines (two-grants ++ (ticks [] ∷ grants 1 ∷ ticks (0 ∷ []) ∷ []))) (1 ∷ 6 ∷ 1 ∷ 4 ∷ 1 ∷ 9 ∷ 1 ∷ 8 ∷ [])
+    ∷ row (placed four-lines (two-grants ++ (ticks [] ∷ grants 4 ∷ ticks (0 ∷ 0 ∷ 0 ∷ 0 ∷ []) ∷ []))) (1 ∷ 6 ∷ 1 ∷ 4 ∷ 1 ∷ 9 ∷ 1 ∷ 8 ∷ [])
+    -- a gap: of the withdrawn workers 1, 2 and 3 the second robbed itself in vain, and its empty line vanishes
+    ∷ row (placed four-lines (four-at-work 2 ++ (grants 1 ∷ []))) (2 ∷ 7 ∷ 4 ∷ 1 ∷ 6 ∷ 1 ∷ 5 ∷ [])
     ∷ []
 
 -- ticks
@@ -470,30 +504,29 @@ program-rows =
     ∷ []
 
 our-rows : List Row
-our-rows = plan-rows ++ grant-rows ++ tick-rows ++ steal-rows ++ quantum-rows ++ log-rows ++ program-rows
+our-rows = plan-rows ++ grant-rows ++ withdrawal-rows ++ tick-rows ++ steal-rows ++ quantum-rows ++ log-rows ++ program-rows
 
 pub rows : List Row
 rows = document-rows ++ our-rows
 
 -- every row holds
 pub table : failing 0 rows ≡ []
-unfolding same row-holds failing task plan-bytes diamond one-task seven easy-seven ten thirteen link chain refusal after-calls quantum-kept
-    shown-from shown answered listed placed labelled document-rows seven-tasks header-fields task-fields fresh-with grant-number
-    quantum-shown current-shown history-shown shown-twice half-of-five three-thieves statuses-from statuses
-    plan-rows grant-rows tick-rows steal-rows quantum-rows log-rows program-rows our-rows rows
-    below every keep member count-set all-set first-no flatMap Plan.predecessors Plan.number Plan.header Plan.task-bits
-    Plan.successor-fields Plan.plan-of Plan.fields-ok Plan.two-differ Plan.targets-ok Plan.task-questions Plan.all-preceded
-    Plan.one-exit Plan.header-questions Plan.graph-questions Plan.plan-questions Plan.plan-answer Machine.finished Machine.fresh
-    Machine.grant-questions Machine.kept-deques Machine.withdrawn-deques Machine.first-task-placed Machine.grant Machine.tick-questions
-    Machine.cycle-of Machine.ready Machine.released Machine.stolen-count Machine.left-by-steal Machine.taken-by-steal Machine.work-cycle
-    Machine.mug-cycle Machine.successful-steal Machine.failed-steal Machine.cycle Machine.cycles Machine.cycles-made Machine.ticked
-    Machine.efficient Machine.satisfied Machine.next-desire Machine.closes Machine.closed Machine.tick Machine.top-desires
-    Machine.call-answer Machine.step Machine.status History.beginning History.history-grant History.history-tick History.history-step
-    History.run-from History.run History.tasks-in Log.entries-up-to Log.entries Log.run-calls Log.run-log Log.log-answer
-    Label.lines-from Label.lines Label.label-answer Label.label Counters.decimal-up-to Counters.decimal Counters.spaced
-    Counters.counters Counters.counters-line Counters.counters-answer Counters.buffer-after Digits.first-above Digits.digit-count
-    Program.plan-length Program.plan-part
-    Program.log-part Program.input-questions Program.refused-line Program.log-output Program.program
+unfolding same row-holds failing task plan-bytes diamond one-task seven easy-seven ten thirteen four-lines link chain refusal after-calls
+    quantum-kept shown-from shown answered listed placed labelled document-rows seven-tasks header-fields task-fields fresh-with
+    grant-number quantum-shown current-shown history-shown shown-twice half-of-five three-thieves two-withdrawn four-at-work two-grants
+    statuses-from statuses plan-rows grant-rows withdrawal-rows tick-rows steal-rows quantum-rows log-rows program-rows our-rows rows below
+    every keep member count-set all-set first-no flatMap Plan.predecessors Plan.number Plan.header Plan.task-bits Plan.successor-fields
+    Plan.plan-of Plan.fields-ok Plan.two-differ Plan.targets-ok Plan.task-questions Plan.all-preceded Plan.one-exit Plan.header-questions
+    Plan.graph-questions Plan.plan-questions Plan.plan-answer Machine.finished Machine.fresh Machine.grant-questions Machine.kept-deques
+    Machine.withdrawn-deques Machine.first-task-placed Machine.grant Machine.tick-questions Machine.cycle-of Machine.ready Machine.released
+    Machine.stolen-count Machine.left-by-steal Machine.taken-by-steal Machine.work-cycle Machine.mug-cycle Machine.successful-steal
+    Machine.failed-steal Machine.cycle Machine.cycles Machine.cycles-made Machine.ticked Machine.efficient Machine.satisfied
+    Machine.next-desire Machine.closes Machine.closed Machine.tick Machine.top-desires Machine.call-answer Machine.step Machine.status
+    History.beginning History.history-grant History.history-tick History.history-step History.run-from History.run History.tasks-in
+    Log.entries-up-to Log.entries Log.run-calls Log.run-log Log.log-answer Label.lines-from Label.lines Label.label-answer Label.label
+    Counters.decimal-up-to Counters.decimal Counters.spaced Counters.counters Counters.counters-line Counters.counters-answer
+    Counters.buffer-after Digits.first-above Digits.digit-count Program.plan-length Program.plan-part Program.log-part
+    Program.input-questions Program.refused-line Program.log-output Program.program
 table = refl
 
 -- examples 3 and 4 by themselves, for a program that meets them from contracts alone: Plan A is accepted, a first grant of 2 is refused by

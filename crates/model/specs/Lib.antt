@@ -1,8 +1,8 @@
 -- Document 01 as definitions, in its own order. A reader holds the two side by side.
 -- Tests, Questions: the few tools that the rest is said with.
 -- Plan, Machine, History: the method. Log, Label, Counters, Program: what stands on it. Digits: how long the counters line is.
--- Statements: what is promised of every list of calls. Thefts: what is promised of a steal (request U1). Examples: the worked examples as
--- one table, which the checker computes.
+-- Statements: what is promised of every list of calls. Thefts: what is promised of a steal (request U1). Muggings: in which order withdrawn
+-- deques are mugged (request U8). Examples: the worked examples as one table, which the checker computes.
 pub mod Tests
 pub mod Questions
 pub mod Plan
@@ -10,6 +10,7 @@ pub mod Machine
 pub mod History
 pub mod Statements
 pub mod Thefts
+pub mod Muggings
 pub mod Log
 pub mod Label
 pub mod Counters

@@ -1,6 +1,6 @@
 -- Document 01, "Grant", "Tick" and "Round's end": what a job is, and how a grant and a tick move it.
 use mathlib.Core.Bool.{Bool, true, false, cond, not, _&&_}
-use mathlib.Core.List.{List, [], _∷_, _++_, tail}
+use mathlib.Core.List.{List, [], _∷_, _++_, tail, reverse}
 use Prim.Native.Nat.{ℕ, suc, _+_, _-_, _*_, _/_, _^_}
 use lib.Dec.{leb, ltb, eqb}
 use lib.ListN.{length, getD, take, drop, set, replicate}
@@ -102,11 +102,12 @@ grant-questions g s =
 unfoldable pub kept-deques : ℕ → List (List ℕ) → List (List ℕ)
 kept-deques g deques = take g deques ++ replicate (g - length deques) []
 
--- the order in which one grant's withdrawn deques join the muggable ones: "in rising worker order"
+-- the order in which one grant's withdrawn deques join the muggable ones: not "in rising worker order", as in document 01, but in falling.
+-- Request U8: "Among lines orphaned by the same grant, the highest worker number is now taken first."
 abbrev pub withdrawal-order : List (List ℕ) → List (List ℕ)
-withdrawal-order deques = deques
+withdrawal-order deques = reverse deques
 
--- "workers g and up are withdrawn; their non-empty lines join .. and empty ones vanish"
+-- "workers g and up are withdrawn; their non-empty lines join the end of the orphans .. and empty ones vanish"
 unfoldable pub withdrawn-deques : ℕ → List (List ℕ) → List (List ℕ)
 withdrawn-deques g deques = withdrawal-order (keep (λ d. not (is-empty d)) (drop g deques))
 

@@ -80,7 +80,13 @@ impl Pair {
             Call::Tick(choices) => proved_number(&self.proved.tick(choices)),
         };
         let reference = match call {
-            Call::Grant(workers) => reference_number(&self.reference.grant(at_most_usize(workers))),
+            Call::Grant(workers) => {
+                let answer = self.reference.grant(at_most_usize(workers));
+                if let Ok(report) = &answer {
+                    totals.count_withdrawn(report);
+                }
+                reference_number(&answer)
+            }
             Call::Tick(choices) => {
                 let answer = self.reference.tick(choices);
                 if let Ok(report) = &answer {

@@ -5,8 +5,7 @@ use std::time::Duration;
 use reference::generator::logs::marathon_log;
 use reference::generator::plans::{marathon_draft, sound_draft, Draft};
 use reference::generator::Random;
-use reference::theft::BENT;
-use reference::{DigitCount, Entries, Rules, Theft, MOST_QUANTA};
+use reference::{theft, withdrawal, DigitCount, Entries, Rules, MOST_QUANTA};
 
 use crate::accept::fresh;
 use crate::compare::{self, Part};
@@ -169,28 +168,32 @@ fn another_limit_of_quanta_is_found() {
     }
 }
 
-/// In what the jobs of a generated case first differ where the reference steals by that rule.
-fn with_theft(theft: Theft, seed: u64) -> Option<Part> {
+/// In what the jobs of a generated case first differ where the reference follows those rules.
+fn with_rules(rules: Rules, seed: u64) -> Option<Part> {
     let random = &mut Random::new(seed);
     let plan = sound_draft(random);
     let mut pair = pair(&plan, &plan);
     let log = inputs::log(random, &pair.reference);
-    pair.reference = pair.reference.with_rules(Rules {
-        theft,
-        ..Rules::default()
-    });
+    pair.reference = pair.reference.with_rules(rules);
     let totals = &mut Totals::default();
     let mut entries = Entries::new(&log).filter_map(Result::ok);
     let called = entries.try_for_each(|entry| pair.call(Call::from(entry), totals));
     called.err().map(|difference| difference.part)
 }
 
+/// The same of 200 cases.
+fn parts_with(rules: Rules) -> Vec<Part> {
+    (0..200)
+        .filter_map(|seed| with_rules(rules, seed))
+        .collect()
+}
+
 #[test]
 fn another_theft_is_found() {
-    let found = |theft| (0..200).filter_map(move |seed| with_theft(theft, seed));
-    assert_eq!(found(Theft::default()).count(), 0);
-    for theft in BENT {
-        let parts: Vec<Part> = found(theft).collect();
+    let right = Rules::default();
+    assert!(parts_with(right).is_empty());
+    for theft in theft::BENT {
+        let parts = parts_with(Rules { theft, ..right });
         let part = if theft.each_succeeds {
             "successful steals"
         } else {
@@ -199,6 +202,17 @@ fn another_theft_is_found() {
         assert!(parts.contains(&part));
         // Not in all: most logs have few steals that succeed, and most of these take one task.
         assert!(parts.len() > 25, "{} with {theft:?}", parts.len());
+    }
+}
+
+#[test]
+fn another_turn_is_found() {
+    let right = Rules::default();
+    for turn in withdrawal::BENT {
+        let parts = parts_with(Rules { turn, ..right });
+        assert!(parts.iter().all(|&part| part == "muggable deques"));
+        // Not in all: it takes a grant that withdraws two deques, or one while others wait.
+        assert!(parts.len() > 25, "{} with {turn:?}", parts.len());
     }
 }
 
@@ -321,6 +335,7 @@ fn a_run_reaches_every_refusal() {
     assert!(totals.ticks[0] > 0 && totals.ticks[64] > 0);
     assert!(totals.digits[1..].iter().all(|&count| count > 0));
     assert!(totals.thefts.iter().all(|&count| count > 0));
+    assert!(totals.withdrawals.iter().all(|&count| count > 0) && totals.behind > 0);
 }
 
 #[test]

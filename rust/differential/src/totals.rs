@@ -2,7 +2,7 @@
 
 use std::fmt;
 
-use reference::{Cycle, DigitCount};
+use reference::{Cycle, DigitCount, GrantReport};
 
 use crate::pair::{Call, Reference};
 
@@ -28,6 +28,10 @@ pub struct Totals {
     pub cycles: [u64; 4],
     /// Steal cycles of all calls by the tasks taken: none, one, two, three, or more.
     pub thefts: [u64; 5],
+    /// Accepted grants of all calls by the deques that they made muggable: none, one, two, three, or more.
+    pub withdrawals: [u64; 5],
+    /// Those of them that made two or more muggable while others waited.
+    pub behind: u64,
     /// Logs run whole.
     pub logs: u64,
     /// The calls in them; the states were compared at the log's end.
@@ -57,6 +61,8 @@ impl Default for Totals {
             ticks: [0; 65],
             cycles: [0; 4],
             thefts: [0; 5],
+            withdrawals: [0; 5],
+            behind: 0,
             logs: 0,
             log_calls: 0,
             log_refusals: [0; 21],
@@ -107,6 +113,12 @@ impl Totals {
                 add(&mut self.thefts, usize::from(stolen.min(4)));
             }
         }
+    }
+
+    /// Counts an accepted grant by what it withdrew.
+    pub fn count_withdrawn(&mut self, report: &GrantReport) {
+        add(&mut self.withdrawals, report.made_muggable.min(4));
+        self.behind += u64::from(report.made_muggable > 1 && report.waited > 0);
     }
 
     /// Counts the cycles of a job at the end of its way.
@@ -189,6 +201,12 @@ impl fmt::Display for Totals {
             "{:>12}  steal cycles in vain; with one task taken, two, three, or more: {:?}",
             self.thefts[0],
             &self.thefts[1..]
+        )?;
+        writeln!(
+            out,
+            "{:>12}  grants that withdrew two or more deques while others waited; one deque, two, three, or more: {:?}",
+            self.behind,
+            &self.withdrawals[1..]
         )?;
         writeln!(out, "{:>12}  accepted ticks of no worker", ticks(0, 0))?;
         writeln!(out, "{:>12}  of 1 to 8 workers", ticks(1, 8))?;

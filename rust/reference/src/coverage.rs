@@ -21,6 +21,8 @@ pub enum Branch {
     GrantSame,
     GrantShrinkEmpty,
     GrantShrinkNonempty,
+    GrantShrinkMany,
+    GrantShrinkBehind,
     WorkNoneReady,
     WorkOneReady,
     WorkTwoReady,
@@ -46,7 +48,7 @@ pub enum Branch {
 use Branch::*;
 
 /// Every branch with what it is.
-pub const BRANCHES: [(Branch, &str); 27] = [
+pub const BRANCHES: [(Branch, &str); 29] = [
     (GrantZero, "grant: of 0"),
     (GrantFirst, "grant: the first above 0"),
     (
@@ -57,6 +59,11 @@ pub const BRANCHES: [(Branch, &str); 27] = [
     (GrantSame, "grant: as many as before"),
     (GrantShrinkEmpty, "grant: an empty deque vanishes"),
     (GrantShrinkNonempty, "grant: a deque becomes muggable"),
+    (GrantShrinkMany, "grant: two or more become muggable"),
+    (
+        GrantShrinkBehind,
+        "grant: two or more become muggable, and others wait",
+    ),
     (WorkNoneReady, "tick: work, no successor ready"),
     (WorkOneReady, "tick: work, one successor ready"),
     (WorkTwoReady, "tick: work, two successors ready"),
@@ -203,7 +210,10 @@ impl Coverage {
         self.reach(GrantGrow, report.added > 0);
         self.reach(GrantSame, report.added == 0 && withdrawn == 0);
         self.reach(GrantShrinkEmpty, report.vanished > 0);
+        let many = report.made_muggable > 1;
         self.reach(GrantShrinkNonempty, report.made_muggable > 0);
+        self.reach(GrantShrinkMany, many);
+        self.reach(GrantShrinkBehind, many && report.waited > 0);
     }
 
     fn cover_tick(&mut self, job: &Job, report: &TickReport) {

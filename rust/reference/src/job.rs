@@ -8,6 +8,7 @@ use crate::plan::{read_plan, Plan};
 use crate::quantum::{classify, is_efficient, next_desire, QuantumEnd};
 use crate::refusal::{ask, Refusal};
 use crate::theft::Theft;
+use crate::withdrawal::{Turn, Withdrawn};
 
 /// No more quanta than this begin. Request U4: a grant passes with 4,095
 /// begun and is refused with 13 where 4,096 have begun.
@@ -23,6 +24,8 @@ pub struct Rules {
     pub digits: DigitCount,
     /// What a steal takes.
     pub theft: Theft,
+    /// Which muggable deque is taken first.
+    pub turn: Turn,
 }
 
 impl Default for Rules {
@@ -31,6 +34,7 @@ impl Default for Rules {
             most_quanta: MOST_QUANTA,
             digits: DigitCount::default(),
             theft: Theft::default(),
+            turn: Turn::default(),
         }
     }
 }
@@ -79,7 +83,7 @@ pub struct Job {
     worked: Vec<bool>,
     worked_count: usize,
     deques: Vec<Deque>,
-    muggable: VecDeque<Deque>,
+    muggable: VecDeque<Withdrawn>,
     desire: usize,
     quantum: Option<OpenQuantum>,
     quanta_begun: u32,
@@ -96,6 +100,8 @@ pub struct Job {
 pub struct GrantReport {
     /// Workers that came, with empty deques.
     pub added: usize,
+    /// Muggable deques that waited before it.
+    pub waited: usize,
     /// Withdrawn workers whose deque became muggable.
     pub made_muggable: usize,
     /// Withdrawn workers whose deque was empty and vanished.
@@ -189,9 +195,10 @@ impl Job {
         &self.deques
     }
 
-    /// The muggable deques (document 01: orphans), oldest first.
-    pub fn muggable_deques(&self) -> &VecDeque<Deque> {
-        &self.muggable
+    /// The muggable deques (document 01: orphans), in the order in which they
+    /// are taken.
+    pub fn muggable_deques(&self) -> Vec<&Deque> {
+        self.muggable.iter().map(|waiting| &waiting.deque).collect()
     }
 
     /// The desire (document 01: wanted).
@@ -286,24 +293,30 @@ impl Job {
         ask(allotment <= self.desire, Refusal::GrantAboveDesire)
     }
 
-    /// Withdraws workers from `allotment` up, in rising order, or adds workers
-    /// with empty deques.
+    /// Withdraws workers from `allotment` up, or adds workers with empty
+    /// deques.
     fn resize(&mut self, allotment: usize) -> GrantReport {
         let mut report = GrantReport {
             added: allotment.saturating_sub(self.deques.len()),
+            waited: self.muggable.len(),
             made_muggable: 0,
             vanished: 0,
             first_above_zero: false,
         };
         let kept = allotment.min(self.deques.len());
-        for deque in self.deques.drain(kept..) {
+        for (worker, deque) in (kept..).zip(self.deques.drain(kept..)) {
             if deque.is_empty() {
                 report.vanished += 1;
             } else {
                 report.made_muggable += 1;
-                self.muggable.push_back(deque);
+                self.muggable.push_back(Withdrawn {
+                    grant: self.quanta_begun,
+                    worker,
+                    deque,
+                });
             }
         }
+        self.rules.turn.arrange(&mut self.muggable);
         self.deques.resize_with(allotment, Deque::new);
         report
     }
@@ -349,9 +362,9 @@ impl Job {
         if let Some(task) = self.deques[worker].pop_front() {
             let enabled = self.work(worker, task);
             Cycle::Work { task, enabled }
-        } else if let Some(deque) = self.muggable.pop_front() {
-            let length = deque.len();
-            self.deques[worker] = deque;
+        } else if let Some(oldest) = self.muggable.pop_front() {
+            let length = oldest.deque.len();
+            self.deques[worker] = oldest.deque;
             Cycle::Mug { length }
         } else {
             self.steal(worker, choice)

@@ -4,8 +4,9 @@
 //! compared with it.
 //!
 //! Reading order, which is document 01's: [`plan`], [`job`] (grant and tick),
-//! [`theft`] (what a steal takes), [`quantum`] (round's end), [`log`],
-//! [`label`], [`counters`], [`program`].
+//! [`withdrawal`] (which orphan is taken first), [`theft`] (what a steal
+//! takes), [`quantum`] (round's end), [`log`], [`label`], [`counters`],
+//! [`program`].
 //! [`generator`] makes random plans and logs from a seed and [`coverage`]
 //! counts what they reach. [`stored`] chooses a set of cases to be kept.
 //!
@@ -25,6 +26,7 @@ pub mod quantum;
 pub mod refusal;
 pub mod stored;
 pub mod theft;
+pub mod withdrawal;
 
 pub use counters::{counters_line, counters_text, line_size, ten_numbers, DigitCount};
 pub use job::{Cycle, GrantReport, Job, OpenQuantum, Rules, Status, TickReport, MOST_QUANTA};
@@ -35,3 +37,4 @@ pub use program::{program_output, split_input};
 pub use quantum::{is_efficient, next_desire, QuantumEnd};
 pub use refusal::Refusal;
 pub use theft::{Share, Theft};
+pub use withdrawal::{Turn, Withdrawn};

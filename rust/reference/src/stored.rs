@@ -19,7 +19,7 @@ pub const KEPT_SEED: u64 = 1;
 const SMALL: usize = 400;
 
 /// Generated cases are taken until the set has this size.
-const ENOUGH: usize = 284_000;
+const ENOUGH: usize = 298_000;
 
 const SHAPES: [Shape; 5] = [
     Shape::Chain,
@@ -39,6 +39,7 @@ pub fn stored_set(seed: u64) -> Vec<u8> {
         spent(),
         counted(),
         robbed(),
+        orphaned(),
         shaped(&mut random),
         wide(&mut random),
     ];
@@ -146,11 +147,68 @@ fn robbed() -> Vec<Vec<u8>> {
         .collect()
 }
 
-/// The desire climbs to the number of workers, in steal cycles in vain; worker
-/// 0 alone goes on until one more work cycle gives its line this size; then all
-/// others steal from it, in that tick and in seven more; then two workers
-/// finish the job.
+/// All others steal from worker 0, in the tick that gives its line this size
+/// and in seven more; then two workers finish the job.
 fn thieves(size: usize, workers: usize) -> Vec<u8> {
+    with_line(size, workers, |writer| {
+        for most in [workers; 8].into_iter().chain([2; 999]) {
+            let count = writer.job.desire().min(most);
+            quantum(writer, &vec![0; count]);
+            if writer.job.is_finished() {
+                break;
+            }
+        }
+    })
+}
+
+/// Lines that grants withdraw, and one worker takes for so many ticks: two
+/// grants with two lines each; two grants with two workers that came back in
+/// between; one grant with a gap among its workers. And 64 lines that one grant
+/// withdraws and five workers take.
+fn orphaned() -> Vec<Vec<u8>> {
+    let kinds: [(u8, &[usize]); 3] = [(0, &[2, 0]), (0, &[0, 2, 0]), (2, &[0])];
+    let all = |ticks: usize| kinds.map(|(choice, grants)| orphans(choice, grants, ticks));
+    (1..=15).flat_map(all).chain([all_orphaned()]).collect()
+}
+
+/// Of a line of 8 tasks workers 1 to 3 take 4, 2 and 1, or the second of them
+/// robs itself and worker 3 takes 2; the grants leave nobody.
+fn orphans(choice: u8, grants: &[usize], ticks: usize) -> Vec<u8> {
+    with_line(8, 4, |writer| {
+        quantum(writer, &[0, 0, choice, 0]);
+        for &count in grants {
+            quantum(writer, &vec![0; count]);
+        }
+        for _ in 0..ticks {
+            quantum(writer, &[0]);
+        }
+    })
+}
+
+/// Each worker robs the one whose number is its own without the highest bit,
+/// so that the longest line comes to 64 workers in one tick.
+fn all_orphaned() -> Vec<u8> {
+    let robbed = |worker: u8| worker ^ (0x80 >> worker.leading_zeros());
+    let choices: Vec<u8> = (1..MOST_WORKERS as u8).map(robbed).collect();
+    with_line(MOST_FORKS + 1, MOST_WORKERS, |writer| {
+        quantum(writer, &[&[0], &choices[..]].concat());
+        quantum(writer, &[]);
+        for _ in 0..40 {
+            quantum(writer, &[0; 5]);
+        }
+    })
+}
+
+/// A grant and a tick: a quantum where L = 1.
+fn quantum(writer: &mut Writer, choices: &[u8]) {
+    writer.grant(choices.len());
+    writer.tick(choices);
+}
+
+/// The desire climbs to the number of workers, in steal cycles in vain; worker
+/// 0 alone goes on until one more work cycle gives its line this size; then the
+/// calls.
+fn with_line(size: usize, workers: usize, calls: impl Fn(&mut Writer)) -> Vec<u8> {
     let mut draft = Draft::of_graph(&nested(MOST_FORKS.min(size + 3)));
     draft.utilization = 1;
     draft.quantum_length = 1;
@@ -159,21 +217,12 @@ fn thieves(size: usize, workers: usize) -> Vec<u8> {
         let mut writer = Writer::new(job);
         while writer.job.desire() < workers {
             let own: Vec<u8> = (0..writer.job.desire() as u8).collect();
-            writer.grant(own.len());
-            writer.tick(&own);
+            quantum(&mut writer, &own);
         }
         while writer.job.deques()[0].len() + 1 < size {
-            writer.grant(1);
-            writer.tick(&[0]);
+            quantum(&mut writer, &[0]);
         }
-        for most in [workers; 8].into_iter().chain([2; 999]) {
-            let count = writer.job.desire().min(most);
-            writer.grant(count);
-            writer.tick(&vec![0; count]);
-            if writer.job.is_finished() {
-                break;
-            }
-        }
+        calls(&mut writer);
         writer.bytes
     });
     input(&plan, &log.unwrap_or_default())

@@ -1,5 +1,4 @@
 -- `allot::withdraw` meets its contract. The loop's invariant: what has joined and what has yet to join is together what is to join.
-use Prim.Native.Nat.{_-_}
 use native.Mathlib.Omega.{arith}
 use Rattle.memory.specs.Parts.{parts, SameButEnds}
 use Rattle.allot.proofs.Ring.{no-move, moved-then}
@@ -12,16 +11,13 @@ Inv-loop memory₀ head waiting g workers joined₀ worker₀ memory joined work
     Withdrawing (parts memory₀ .ends) head waiting g workers (parts memory .ends) joined worker × SameButEnds (parts memory₀) (parts memory)
 
 abbrev μ-loop : tie.MeasureT-loop
-μ-loop memory₀ head waiting g workers joined₀ worker₀ memory joined worker = workers - worker
+μ-loop memory₀ head waiting g workers joined₀ worker₀ memory joined worker = worker
 
 loop-holds : tie.Need-loop-holds Inv-loop μ-loop
 loop-holds c = (withdrawing-none (c .pre), no-move)
 
 join-requires : tie.Need-join-requires Inv-loop μ-loop
 join-requires c κs = withdrawing-room (c .before .before .before .pre) (c .before .before .loop .inv .0) (c .before .loop-test .taken)
-
-add-worker : tie.Need-add-worker Inv-loop μ-loop
-add-worker c = omega (arith, c .before .before .before .before .pre .some-workers)
 
 loop-again : tie.Need-loop-again Inv-loop μ-loop
 loop-again c =
@@ -36,4 +32,4 @@ returns c =
     (withdrawing-done (c .before .before .pre) (at .0) (c .loop-test .left), at .1)
 
 pub withdraw-spec : {M : Type 1} → statement M
-withdraw-spec = tie.close (tie.spec Inv-loop μ-loop loop-holds join-requires add-worker (λ c. omega arith) loop-again returns)
+withdraw-spec = tie.close (tie.spec Inv-loop μ-loop loop-holds (λ c. omega arith) join-requires (λ c. omega arith) loop-again returns)

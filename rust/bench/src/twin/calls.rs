@@ -80,7 +80,7 @@ impl Numbers {
         0
     }
 
-    /// The deques of workers `from` up to `to` that are not empty join the end of the muggable ones.
+    /// The deques of workers `from` up to `to` that are not empty join the end of the muggable ones, the last worker's first.
     ///
     /// # Safety
     /// `to` is at most 64.
@@ -88,7 +88,7 @@ impl Numbers {
     unsafe fn withdraw(&mut self, tables: &mut Tables, from: usize, to: usize) {
         let ends = tables.ends.as_mut_ptr();
         let mut end = self.head + self.waiting;
-        for worker in from..to {
+        for worker in (from..to).rev() {
             let size = *ends.add(SIZES + worker);
             if size != 0 {
                 let place = WORKERS + end % WORKERS;

@@ -38,24 +38,75 @@ fn quantum(job: &mut Job, choices: &[u8]) {
 }
 
 #[test]
-fn withdrawn_deques_wait_oldest_first() {
+fn of_one_grant_the_highest_workers_deque_is_taken_first() {
     let mut job = tree();
     quantum(&mut job, &[0]);
     quantum(&mut job, &[0, 0]);
     assert_eq!(job.deques(), [vec![3, 4], vec![2]]);
     assert_eq!(job.desire(), 1, "one of two cycles is below 80 percent");
     quantum(&mut job, &[]);
-    assert_eq!(*job.muggable_deques(), [vec![3, 4], vec![2]]);
+    assert_eq!(job.muggable_deques(), [&vec![2], &vec![3, 4]]);
     quantum(&mut job, &[0]);
-    assert_eq!(job.deques(), [vec![3, 4]]);
+    assert_eq!(job.deques(), [vec![2]]);
+    // Worker 0's deque of the later grant waits behind worker 0's of the earlier one.
     quantum(&mut job, &[]);
-    assert_eq!(*job.muggable_deques(), [vec![2], vec![3, 4]]);
+    assert_eq!(job.muggable_deques(), [&vec![3, 4], &vec![2]]);
     quantum(&mut job, &[1, 0]);
-    assert_eq!(job.deques(), [vec![2], vec![3, 4]]);
+    assert_eq!(job.deques(), [vec![3, 4], vec![2]]);
     assert_eq!((job.mug_cycles(), job.desire()), (3, 4));
     quantum(&mut job, &[0, 0, 0, 1]);
-    assert_eq!(job.deques(), [vec![5], vec![4], vec![6], vec![]]);
+    assert_eq!(job.deques(), [vec![4], vec![5], vec![], vec![6]]);
     assert_eq!((job.steal_cycles(), job.successful_steals()), (3, 2));
+}
+
+/// Thirteen tasks: after three quanta workers 0 to 3 have a task each, and
+/// workers 0 and 1 have one after their next cycle, too.
+fn four_lines() -> Job {
+    let successors: [&[u16]; 13] = [
+        &[1, 2],
+        &[3, 4],
+        &[5, 6],
+        &[7],
+        &[10],
+        &[9],
+        &[11],
+        &[8],
+        &[10],
+        &[11],
+        &[12],
+        &[12],
+        &[],
+    ];
+    drawn(&successors, 1)
+}
+
+#[test]
+fn an_earlier_grants_deques_come_first() {
+    let mut job = four_lines();
+    for choices in [&[0][..], &[0, 0], &[0, 0, 0, 1]] {
+        quantum(&mut job, choices);
+    }
+    assert_eq!(job.deques(), [vec![7], vec![5], vec![4], vec![6]]);
+    quantum(&mut job, &[0, 0]);
+    assert_eq!(job.deques(), [vec![8], vec![9]]);
+    assert_eq!(job.muggable_deques(), [&vec![6], &vec![4]]);
+    quantum(&mut job, &[]);
+    let waiting = [&vec![6], &vec![4], &vec![9], &vec![8]];
+    assert_eq!(job.muggable_deques(), waiting);
+    quantum(&mut job, &[0, 0, 0, 0]);
+    assert_eq!(job.deques(), [vec![6], vec![4], vec![9], vec![8]]);
+}
+
+#[test]
+fn a_gap_among_withdrawn_workers() {
+    let mut job = four_lines();
+    for choices in [&[0][..], &[0, 0], &[0, 0, 2, 1]] {
+        quantum(&mut job, choices);
+    }
+    assert_eq!(job.deques(), [vec![7, 4], vec![5], vec![], vec![6]]);
+    let report = job.grant(1).expect("an accepted grant");
+    assert_eq!((report.made_muggable, report.vanished), (2, 1));
+    assert_eq!(job.muggable_deques(), [&vec![6], &vec![5]]);
 }
 
 #[test]
@@ -63,7 +114,7 @@ fn a_deque_just_mugged_can_be_robbed() {
     let mut job = tree();
     quantum(&mut job, &[0]);
     quantum(&mut job, &[]);
-    assert_eq!(*job.muggable_deques(), [vec![1, 2]]);
+    assert_eq!(job.muggable_deques(), [&vec![1, 2]]);
     quantum(&mut job, &[0, 0]);
     assert_eq!(job.deques(), [vec![1], vec![2]]);
     assert_eq!((job.mug_cycles(), job.successful_steals()), (1, 1));
@@ -125,7 +176,7 @@ fn only_workers_from_the_grant_up_are_withdrawn() {
     quantum(&mut job, &[0, 0]);
     quantum(&mut job, &[0]);
     assert_eq!(job.deques(), [vec![4]]);
-    assert_eq!(*job.muggable_deques(), [vec![2]]);
+    assert_eq!(job.muggable_deques(), [&vec![2]]);
 }
 
 #[test]

@@ -157,7 +157,11 @@ fn check_limit(job: &Job) {
 fn check_deques(job: &Job, witness: &Witness) {
     let muggable = job.muggable_deques();
     assert!(muggable.iter().all(|deque| !deque.is_empty()));
-    let tasks = job.deques().iter().chain(muggable).flatten();
+    let tasks = job
+        .deques()
+        .iter()
+        .chain(muggable.iter().copied())
+        .flatten();
     let mut held: Vec<usize> = tasks.map(|&task| usize::from(task)).collect();
     held.sort_unstable();
     let waits = |&task: &usize| !witness.worked[task] && witness.is_ready(job.plan(), task);

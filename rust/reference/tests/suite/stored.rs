@@ -2,9 +2,9 @@
 
 use reference::coverage::{Coverage, BRANCHES};
 use reference::stored::{stored_cases, stored_set, KEPT_SEED};
-use reference::theft::BENT;
+use reference::MOST_QUANTA;
 use reference::{counters_text, program_output, read_plan, run_log, run_log_with, split_input};
-use reference::{Cycle, Entries, Job, Refusal, Report, Rules, Status, Theft, MOST_QUANTA};
+use reference::{theft, withdrawal, Cycle, Entries, Job, Refusal, Report, Rules, Status};
 
 /// The kept set, which the crate `vectors` runs, and what it must write.
 const KEPT: &[u8] = include_bytes!("../../../../crates/vectors/stdin");
@@ -169,30 +169,52 @@ fn kept_set_has_thefts_from_short_lines_and_the_longest() {
     assert!(lines.iter().all(|&(size, _)| size <= 342));
 }
 
-/// Whether a case's line is another one where steals follow that rule.
-fn shows(theft: Theft, input: &[u8], output: &[u8]) -> bool {
+/// Of each grant of a case, how many deques it withdraws and how many waited.
+fn withdrawn(input: &[u8]) -> Vec<(usize, usize)> {
+    let mut grants = Vec::new();
+    let job = split_input(input).and_then(|(plan, log)| Ok((Job::accept(plan)?, log)));
+    if let Ok((mut job, log)) = job {
+        run_log_with(&mut job, log, |_, _, answer| {
+            if let Ok(Report::Grant(report)) = answer {
+                grants.push((report.made_muggable, report.waited));
+            }
+        });
+    }
+    grants
+}
+
+#[test]
+fn kept_set_has_grants_of_two_lines_behind_two_and_of_64() {
+    let cases = kept().into_iter();
+    let grants: Vec<_> = cases.flat_map(|(input, _)| withdrawn(input)).collect();
+    for grant in [(2, 0), (2, 2), (3, 0), (64, 0)] {
+        assert!(grants.contains(&grant), "no grant of {grant:?}");
+    }
+}
+
+/// How many of the cases have another line where a job follows those rules.
+fn told_apart(rules: Rules) -> usize {
     let bent = |(plan, log)| {
-        let rules = Rules {
-            theft,
-            ..Rules::default()
-        };
         let mut job = Job::accept(plan).ok()?.with_rules(rules);
         let outcome = run_log(&mut job, log);
         Some(counters_text(&job, outcome.refused))
     };
-    let line = split_input(input).ok().and_then(bent);
-    line.map_or(false, |line| !output.starts_with(line.as_bytes()))
+    let shows = |input, output: &[u8]| {
+        let line = split_input(input).ok().and_then(bent);
+        line.map_or(false, |line| !output.starts_with(line.as_bytes()))
+    };
+    let cases = kept().into_iter();
+    cases.filter(|(input, output)| shows(input, output)).count()
 }
 
 #[test]
-fn kept_set_tells_thefts_apart() {
-    let found = |theft| {
-        let cases = kept();
-        let shown = cases.iter().filter(|(i, o)| shows(theft, i, o));
-        shown.count()
-    };
-    assert_eq!(found(Theft::default()), 0);
-    for theft in BENT {
-        assert!(found(theft) >= 10, "{} with {theft:?}", found(theft));
+fn kept_set_tells_thefts_and_turns_apart() {
+    let right = Rules::default();
+    assert_eq!(told_apart(right), 0);
+    let thefts = theft::BENT.map(|theft| Rules { theft, ..right });
+    let turns = withdrawal::BENT.map(|turn| Rules { turn, ..right });
+    for rules in thefts.into_iter().chain(turns) {
+        let found = told_apart(rules);
+        assert!(found >= 10, "{found} with {rules:?}");
     }
 }
