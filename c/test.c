@@ -210,30 +210,50 @@ static void test_calls(void)
     release_job(job);
 }
 
-/* thirteen tasks, of which worker 0 alone has five in its deque after four: a thief takes two of them and works them in the next two
- * ticks; and three thieves in one tick, of which the second takes half of what the first left, the third half of what the first took */
-static void test_thefts(void)
+/* thirteen tasks with D = 1 and L = 1, of which worker 0 alone has five in its deque after four */
+static void nested(plan_bytes *plan)
 {
     static const unsigned next[13][2] = {{1, 2}, {3, 4}, {12, 0}, {5, 6}, {11, 0}, {7, 8}, {10, 0}, {9, 0}, {9, 0}, {10, 0}, {11, 0},
         {12, 0}, {0, 0}};
-    static const char one[] = "\x01\x81\0\x01\x81\0\x01\x81\0\x02\x82\0\0";
+    unsigned t;
+    put_header(plan, 1, 2, 1, 1, 13);
+    for (t = 0; t < 12; t++) put_task(plan, t, next[t][1] == 0 ? 1 : 2, next[t][0], next[t][1]);
+}
+
+/* the line after a log on a fresh job of the plan, none of whose calls is refused */
+static int line_after(const plan_bytes *plan, const char *log, size_t size, const char *line)
+{
+    jirvaldo_job *job = accepted(plan);
+    uint64_t refused = 99;
+    int same = log_bytes(job, (const uint8_t *)log, size, &refused) == 0 && refused == 0 && line_is(job, 0, line);
+    release_job(job);
+    return same;
+}
+
+/* a thief takes two of five tasks and works them in the next two ticks; and three thieves in one tick, of which the second takes half of
+ * what the first left, the third half of what the first took */
+static void test_thefts(void)
+{
+    static const char one[] = "\x01\x81\0\x01\x81\0\x01\x81\0\x02\x82\0\0\x02\x82\0\0\x02\x82\0\0";
     static const char three[] = "\x01\x81\0\x01\x81\0\x02\x82\0\x01\x04\x84\0\0\0\x01";
     plan_bytes plan;
-    jirvaldo_job *job;
-    uint64_t refused = 99;
-    unsigned t;
-    put_header(&plan, 1, 2, 1, 1, 13);
-    for (t = 0; t < 12; t++) put_task(&plan, t, next[t][1] == 0 ? 1 : 2, next[t][0], next[t][1]);
-    job = accepted(&plan);
-    CHECK(log_bytes(job, (const uint8_t *)one, sizeof one - 1, &refused) == 0 && refused == 0);
-    CHECK(line_is(job, 0, "1 4 13 4 2 4 0 1 1 0"));
-    CHECK(log_bytes(job, (const uint8_t *)"\x02\x82\0\0\x02\x82\0\0", 8, &refused) == 0 && refused == 0);
-    CHECK(line_is(job, 0, "1 8 13 4 2 8 0 1 1 0"));
-    release_job(job);
-    job = accepted(&plan);
-    CHECK(log_bytes(job, (const uint8_t *)three, sizeof three - 1, &refused) == 0 && refused == 0);
-    CHECK(line_is(job, 0, "1 4 13 8 4 4 0 4 3 0"));
-    release_job(job);
+    nested(&plan);
+    CHECK(line_after(&plan, one, 13, "1 4 13 4 2 4 0 1 1 0"));
+    CHECK(line_after(&plan, one, sizeof one - 1, "1 8 13 4 2 8 0 1 1 0"));
+    CHECK(line_after(&plan, three, sizeof three - 1, "1 4 13 8 4 4 0 4 3 0"));
+}
+
+/* a grant of 0 withdraws worker 1 with two tasks and worker 0 with two, and one worker mugs the former, works them and mugs the latter; and
+ * the deques of an earlier grant, with a task each, are mugged before that of a later one, whose task another would follow */
+static void test_withdrawals(void)
+{
+    static const char last[] = "\x01\x81\0\x01\x81\0\x02\x82\0\0\0\x80\x01\x81\0\x01\x81\0\x01\x81\0\x01\x81\0";
+    static const char earlier[] =
+        "\x01\x81\0\x01\x81\0\x02\x82\0\x01\x04\x84\0\0\0\x01\x02\x82\0\0\0\x80\x01\x81\0\x01\x81\0\x01\x81\0";
+    plan_bytes plan;
+    nested(&plan);
+    CHECK(line_after(&plan, last, sizeof last - 1, "1 5 13 4 1 5 2 1 1 0"));
+    CHECK(line_after(&plan, earlier, sizeof earlier - 1, "1 7 13 8 1 7 2 4 3 0"));
 }
 
 /* all quanta that may begin, of 0 workers and one tick each; then as a log */
@@ -663,6 +683,7 @@ int main(int count, char **arguments)
     test_plans();
     test_calls();
     test_thefts();
+    test_withdrawals();
     test_spent_quanta();
     test_logs();
     test_wordings();

@@ -117,7 +117,7 @@ module _ {plan : Plan} (sound : SoundPlan plan) (calls : List Call) where
   pub steals-half : StealsHalf (plan .graph)
   steals-half = Thefts.steals-half (plan .graph)
 
-  -- "Among lines orphaned by the same grant, the highest worker number is now taken first. Lines of an earlier grant still come before them":
-  -- what was mugged so far, and then what waits, is what all grants so far withdrew, each of them in falling worker order
+  -- "Among lines orphaned by the same grant, the highest worker number is now taken first. Lines of an earlier grant still come before
+  -- them": what was mugged so far, and then what waits, is what all grants so far withdrew, each of them in falling worker order
   pub mugged-in-turn : MuggedInTurn plan calls
   mugged-in-turn = Muggings.mugged-in-turn plan calls

@@ -11,7 +11,7 @@ fn view(job: &Reference) -> View {
     View {
         worked: job.worked().to_vec(),
         deques: job.deques().iter().map(tasks).collect(),
-        muggable: job.muggable_deques().iter().map(tasks).collect(),
+        muggable: job.muggable_deques().into_iter().map(tasks).collect(),
         desire: job.desire(),
         open_quantum: job
             .open_quantum()

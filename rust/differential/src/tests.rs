@@ -181,19 +181,18 @@ fn with_rules(rules: Rules, seed: u64) -> Option<Part> {
     called.err().map(|difference| difference.part)
 }
 
-/// The same of 200 cases.
-fn parts_with(rules: Rules) -> Vec<Part> {
-    (0..200)
-        .filter_map(|seed| with_rules(rules, seed))
-        .collect()
+/// The same of so many cases, without those that do not differ.
+fn parts_with(rules: Rules, cases: u64) -> Vec<Part> {
+    let parts = (0..cases).map(|seed| with_rules(rules, seed));
+    parts.flatten().collect()
 }
 
 #[test]
 fn another_theft_is_found() {
     let right = Rules::default();
-    assert!(parts_with(right).is_empty());
+    assert!(parts_with(right, 200).is_empty());
     for theft in theft::BENT {
-        let parts = parts_with(Rules { theft, ..right });
+        let parts = parts_with(Rules { theft, ..right }, 200);
         let part = if theft.each_succeeds {
             "successful steals"
         } else {
@@ -209,7 +208,8 @@ fn another_theft_is_found() {
 fn another_turn_is_found() {
     let right = Rules::default();
     for turn in withdrawal::BENT {
-        let parts = parts_with(Rules { turn, ..right });
+        let parts = parts_with(Rules { turn, ..right }, 1_000);
+        // The grant itself shows it, before anything is taken.
         assert!(parts.iter().all(|&part| part == "muggable deques"));
         // Not in all: it takes a grant that withdraws two deques, or one while others wait.
         assert!(parts.len() > 25, "{} with {turn:?}", parts.len());

@@ -19,7 +19,7 @@ pub const KEPT_SEED: u64 = 1;
 const SMALL: usize = 400;
 
 /// Generated cases are taken until the set has this size.
-const ENOUGH: usize = 298_000;
+const ENOUGH: usize = 306_000;
 
 const SHAPES: [Shape; 5] = [
     Shape::Chain,

@@ -85,6 +85,31 @@ fn three_thieves_in_one_tick() {
 }
 
 #[test]
+fn of_one_grant_the_highest_workers_deque_is_mugged_first() {
+    let mut job = nested();
+    let run = job.run_log(&hex("01 81 00 01 81 00 02 82 00 00 00"));
+    assert_eq!(run.refused_calls, 0);
+    assert_eq!(State::of(&job).muggable, [vec![4, 2], vec![5, 6]]);
+    assert_eq!(job.run_log(&hex("80 01 81 00")).refused_calls, 0);
+    let state = State::of(&job);
+    assert_eq!(state.deques, [vec![4, 2]]);
+    assert_eq!(state.muggable, [vec![5, 6]]);
+}
+
+#[test]
+fn an_earlier_grants_deques_are_mugged_first() {
+    let mut job = nested();
+    let run = job.run_log(&hex("01 81 00 01 81 00 02 82 00 01 04 84 00 00 00 01 02"));
+    assert_eq!(run.refused_calls, 0);
+    assert_eq!(State::of(&job).muggable, [vec![2], vec![6]]);
+    assert_eq!(job.run_log(&hex("82 00 00 00")).refused_calls, 0);
+    assert_eq!(State::of(&job).muggable, [vec![2], vec![6], vec![8]]);
+    let run = job.run_log(&hex("80 03 83 00 00 00"));
+    assert_eq!(run.refused_calls, 0);
+    assert_eq!(State::of(&job).deques, [vec![2], vec![6], vec![8]]);
+}
+
+#[test]
 fn example_9_one_task() {
     let mut job = job(&hex(ONE_TASK));
     assert_eq!((job.grant(1), job.tick(&[0])), (Ok(()), Ok(())));

@@ -22,6 +22,9 @@ pub enum Grants {
     Late,
     /// The desire, with a quantum of 0 here and there.
     Pauses,
+    /// The desire for six quanta, then 0 and one to three workers by turns, so
+    /// that muggable deques wait while others join them.
+    Trickle,
 }
 
 /// Whom the workers choose.
@@ -57,7 +60,7 @@ pub struct Style {
 }
 
 /// Every way to grant.
-pub const GRANTS: [Grants; 7] = [
+pub const GRANTS: [Grants; 8] = [
     Grants::Full,
     Grants::Any,
     Grants::OnOff,
@@ -65,6 +68,7 @@ pub const GRANTS: [Grants; 7] = [
     Grants::OneLess,
     Grants::Late,
     Grants::Pauses,
+    Grants::Trickle,
 ];
 
 /// Every way to choose, the likeliest twice.
@@ -169,6 +173,9 @@ impl Writer {
             Grants::Late => desire,
             Grants::Pauses if random.chance(64) => 0,
             Grants::Pauses => desire,
+            Grants::Trickle if begun % 12 < 6 => desire,
+            Grants::Trickle if begun % 2 == 0 => 0,
+            Grants::Trickle => random.between(1, 3).min(desire),
         }
     }
 

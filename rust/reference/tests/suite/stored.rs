@@ -136,25 +136,35 @@ fn kept_set_has_numbers_on_both_sides_of_a_power_of_ten() {
     }
 }
 
+/// What the accepted calls of a case did, each with the granted count then;
+/// nothing where the plan is refused.
+fn reports(input: &[u8]) -> Vec<(usize, Report)> {
+    let mut reports = Vec::new();
+    let job = split_input(input).and_then(|(plan, log)| Ok((Job::accept(plan)?, log)));
+    if let Ok((mut job, log)) = job {
+        run_log_with(&mut job, log, |job, _, answer| {
+            reports.extend(answer.iter().map(|did| (job.allotment(), did.clone())));
+        });
+    }
+    reports
+}
+
 /// The sizes of the lines that a case's thieves rob with success, each with the
 /// number of granted workers.
 fn robbed(input: &[u8]) -> Vec<(u16, usize)> {
     let mut lines = Vec::new();
-    let job = split_input(input).and_then(|(plan, log)| Ok((Job::accept(plan)?, log)));
-    if let Ok((mut job, log)) = job {
-        run_log_with(&mut job, log, |job, _, answer| {
-            let Ok(Report::Tick(report)) = answer else {
-                return;
-            };
-            for cycle in &report.cycles {
-                match *cycle {
-                    Cycle::Steal { stolen, left, .. } if stolen > 0 => {
-                        lines.push((stolen + left, job.allotment()));
-                    }
-                    _ => (),
+    for (workers, report) in reports(input) {
+        let Report::Tick(report) = report else {
+            continue;
+        };
+        for cycle in report.cycles {
+            match cycle {
+                Cycle::Steal { stolen, left, .. } if stolen > 0 => {
+                    lines.push((stolen + left, workers));
                 }
+                _ => (),
             }
-        });
+        }
     }
     lines
 }
@@ -171,16 +181,11 @@ fn kept_set_has_thefts_from_short_lines_and_the_longest() {
 
 /// Of each grant of a case, how many deques it withdraws and how many waited.
 fn withdrawn(input: &[u8]) -> Vec<(usize, usize)> {
-    let mut grants = Vec::new();
-    let job = split_input(input).and_then(|(plan, log)| Ok((Job::accept(plan)?, log)));
-    if let Ok((mut job, log)) = job {
-        run_log_with(&mut job, log, |_, _, answer| {
-            if let Ok(Report::Grant(report)) = answer {
-                grants.push((report.made_muggable, report.waited));
-            }
-        });
-    }
-    grants
+    let granted = |(_, report)| match report {
+        Report::Grant(report) => Some((report.made_muggable, report.waited)),
+        Report::Tick(_) => None,
+    };
+    reports(input).into_iter().filter_map(granted).collect()
 }
 
 #[test]
