@@ -5,12 +5,11 @@ use mathlib.Core.List.{List, [], _∷_, _++_}
 use Prim.Native.Nat.{ℕ, zero, suc, _≤_, _<_}
 use native.Mathlib.Omega.{arith}
 use native.Mathlib.Nat.{sub-zero}
-use lib.ListN.{length, drop, set, length-reverse}
+use lib.ListN.{length, set}
 use borrow.Author.Tests.{eq-eqb, ne-eqb}
-use Rattle.model.specs.Tests.{below, keep}
-use Rattle.model.specs.Machine.{grant, kept-deques, withdrawn-deques, place-first-task, first-task-placed}
-use Rattle.laws.specs.Invariants.{busy}
-use Rattle.laws.proofs.Deques.{non-empty, busy-non-empty, busy-split}
+use Rattle.model.specs.Tests.{below}
+use Rattle.model.specs.Machine.{grant, kept-deques, place-first-task, first-task-placed}
+use Rattle.laws.proofs.Grants.{kept-and-withdrawn-busy}
 use Rattle.memory.specs.declared.Deque.{Deque}
 use Rattle.memory.specs.Parts.{Parts, parts, SameButEnds}
 use Rattle.memory.specs.Words.{word, word-count, Numbers, numbers-in, started-in, SameTail}
@@ -24,7 +23,7 @@ use Rattle.allot.proofs.Ring.{ends-moved, moved-then}
 
 -- the words after a grant of g that leaves so many muggable deques
 abbrev pub words-after : List ℕ → ℕ → ℕ → List ℕ
-words-after words g waiting = set (set (set words 1 g) 7 0) 9 waiting
+words-after words g waiting = set (set (set words 9 waiting) 1 g) 7 0
 
 module _ (words : List ℕ) (g waiting : ℕ) where
   numbers-stored : length words ≡ word-count → numbers-in (words-after words g waiting) ≡ numbers-after (numbers-in words) g waiting
@@ -34,8 +33,8 @@ module _ (words : List ℕ) (g waiting : ℕ) where
 
   tail-stored : SameTail words (words-after words g waiting)
   tail-stored =
-      tail-then (tail-store words 1 g (omega arith))
-      (tail-then (tail-store (set words 1 g) 7 0 (omega arith)) (tail-store (set (set words 1 g) 7 0) 9 waiting (omega arith)))
+      tail-then (tail-store words 9 waiting (omega arith))
+      (tail-then (tail-store (set words 9 waiting) 1 g (omega arith)) (tail-store (set (set words 9 waiting) 1 g) 7 0 (omega arith)))
 
 -- ---- the deques
 
@@ -52,10 +51,6 @@ first-placed : (g : ℕ) (ds : List (List ℕ)) → 0 < g → ds ≡ [] → set 
 unfolding kept-deques
 first-placed zero ds h e = absurd (omega arith)
 first-placed (suc n) ds h e = rw (e, sub-zero) refl
-
-busy-withdrawn : (g : ℕ) (ds : List (List ℕ)) → length (withdrawn-deques g ds) ≤ busy ds
-unfolding withdrawn-deques
-busy-withdrawn g ds = omega (arith, length-reverse (keep non-empty (drop g ds)), busy-non-empty (drop g ds), busy-split g ds)
 
 -- ---- the grant
 
@@ -78,7 +73,7 @@ module _ {memory words : List ℕ} {g : ℕ} (w : Grantable memory words g) wher
         head-in-ring = w .head-in-ring;
         some-workers = some-workers;
         links = next;
-        room = omega (arith, w .bounded .lines, busy-withdrawn g (deques-view next (p .ends) (m .workers)));
+        room = omega (arith, w .bounded .lines, kept-and-withdrawn-busy g (deques-view next (p .ends) (m .workers)));
       }
 
   -- what the grant leaves of the deques, and adds to the muggable ones

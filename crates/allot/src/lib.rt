@@ -65,10 +65,10 @@ pub fn allot(memory: &mut Memory, words: &mut Words, g: usize)
     let before = words[memory::WAITING] as usize;
     let started = words[memory::STARTED];
     let waiting = withdraw(memory, head, before, g, workers);
-    clear(memory, workers, g);
+    words[memory::WAITING] = waiting as u64;
     words[memory::WORKERS] = g as u64;
     words[memory::USAGE] = 0;
-    words[memory::WAITING] = waiting as u64;
+    clear(memory, workers, g);
     if started != 0 {
         return;
     }

@@ -11,7 +11,7 @@ use lib.Seq.{getD-set-same}
 use Rattle.model.specs.Questions.{Answer, accepted, refused, by-answer}
 use Rattle.model.specs.Plan.{Plan, Graph}
 use Rattle.model.specs.Machine.{Execution, deque-of, fresh, grant, withdrawn-deques, work-cycle, mug-cycle, successful-steal, failed-steal}
-use Rattle.model.specs.Machine.{Cycle, works-on, mugs-deque, steals-from, steals-nothing, cycle, cycle-of, cycles, cycles-made, tick}
+use Rattle.model.specs.Machine.{Cycle, works-on, mugs-deque, steals-from, steals-nothing, cycle, cycle-of, cycles-made, tick}
 use Rattle.model.specs.Machine.{Call, grants, ticks, call-answer, step}
 use Rattle.model.specs.History.{History, beginning, history-grant, history-tick, history-moved, history-step, run, run-from}
 use Rattle.model.specs.Muggings.{withdrawn-by, all-withdrawn, mugged-in, MuggedInTurn}

@@ -351,6 +351,10 @@ withdrawal-rows =
     -- "Lines of an earlier grant still come before them": a worker takes 6, four take 6, 4, 9 and 8
     ∷ row (placed four-lines (two-grants ++ (ticks [] ∷ grants 1 ∷ ticks (0 ∷ []) ∷ []))) (1 ∷ 6 ∷ 1 ∷ 4 ∷ 1 ∷ 9 ∷ 1 ∷ 8 ∷ [])
     ∷ row (placed four-lines (two-grants ++ (ticks [] ∷ grants 4 ∷ ticks (0 ∷ 0 ∷ 0 ∷ 0 ∷ []) ∷ []))) (1 ∷ 6 ∷ 1 ∷ 4 ∷ 1 ∷ 9 ∷ 1 ∷ 8 ∷ [])
+    -- also where the later grant withdraws a higher worker: all four are withdrawn, workers 0 and 1 come back, take 6 and 4, and are
+    -- withdrawn again; worker 0's line 7 of the earlier grant is before worker 1's line 4 of the later one
+    ∷ row (placed four-lines (four-at-work 0 ++ (grants 0 ∷ ticks [] ∷ grants 2 ∷ ticks (0 ∷ 0 ∷ []) ∷ grants 0 ∷ [])))
+    (1 ∷ 5 ∷ 1 ∷ 7 ∷ 1 ∷ 4 ∷ 1 ∷ 6 ∷ [])
     -- a gap: of the withdrawn workers 1, 2 and 3 the second robbed itself in vain, and its empty line vanishes
     ∷ row (placed four-lines (four-at-work 2 ++ (grants 1 ∷ []))) (2 ∷ 7 ∷ 4 ∷ 1 ∷ 6 ∷ 1 ∷ 5 ∷ [])
     ∷ []
