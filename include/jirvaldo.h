@@ -114,9 +114,9 @@ static inline unsigned jirvaldo_accept(jirvaldo_job *job, const uint8_t *plan, s
 }
 
 /* Grants a number of workers, 0 included, for the next quantum. 0: the quantum is open and takes L ticks; workers from that number up are
- * withdrawn and their deques wait to be mugged, those of an earlier grant first, of one grant the highest worker's first. 11: the job is
- * finished. 12: a quantum is open. 13: JIRVALDO_QUANTA_MAX quanta have begun. 14: the job wants fewer workers, as it does of every number
- * above 64. Refused, the job is byte for byte as it was. */
+ * withdrawn, and their deques, unless empty, wait to be mugged: those of an earlier grant first, of one grant the highest worker's first.
+ * 11: the job is finished. 12: a quantum is open. 13: JIRVALDO_QUANTA_MAX quanta have begun. 14: the job wants fewer workers, as it does of
+ * every number above 64. Refused, the job is byte for byte as it was. */
 static inline unsigned jirvaldo_grant(jirvaldo_job *job, uint64_t workers)
 {
     return jirvaldo_core_grant(job->memory_, job->words_, workers);

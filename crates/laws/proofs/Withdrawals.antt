@@ -1,5 +1,5 @@
--- What a grant withdraws: of one worker more, its deque is the first (`last-withdrawn`), and from the last worker on none is
--- (`none-withdrawn`). So one grant's deques are those of the withdrawn workers with tasks left, the highest worker's first.
+-- What a grant of g withdraws: of one worker more, its deque is the first (`last-withdrawn`), and of g workers or fewer none is
+-- (`none-withdrawn`). So it is the deques of the workers from g on with tasks left, the highest worker's first (`highest-first`).
 -- Assumes nothing.
 use mathlib.Core.Path.{_≡_, refl, sym, ap, _∙_}
 use mathlib.Core.Bool.{Bool, true, false}

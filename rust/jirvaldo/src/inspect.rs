@@ -104,7 +104,7 @@ impl<'a> View<'a> {
         self.word(9) as usize
     }
 
-    /// A muggable deque, from its front to its back; 0 is the oldest.
+    /// A muggable deque, from its front to its back; 0 is the oldest, the one that is mugged next.
     pub fn muggable_deque(self, age: usize) -> impl Iterator<Item = u16> + 'a {
         let ring = (self.word(8) as usize).wrapping_add(age) % MOST_WORKERS;
         self.deque_at((age < self.muggable_deques()).then_some(MOST_WORKERS + ring))
@@ -188,7 +188,7 @@ pub struct State {
     pub worked: Vec<bool>,
     /// The deques of the granted workers, each from its front to its back.
     pub deques: Vec<Vec<u16>>,
-    /// The muggable deques, oldest first.
+    /// The muggable deques, oldest first, in the order in which they are mugged.
     pub muggable: Vec<Vec<u16>>,
     /// The desire.
     pub desire: u8,

@@ -83,10 +83,9 @@ impl Job {
 /// Calls move the job.
 impl Job {
     /// Grants that many workers and opens a quantum, the L ticks of the plan. 0 workers are a grant too. Workers from the new count up are
-    /// withdrawn, and their deques wait to be mugged; workers that are new have empty deques.
+    /// withdrawn, and their deques, unless empty, wait to be mugged; workers that are new have empty deques.
     ///
-    /// Deques of an earlier grant are mugged first; of those that one grant withdraws, the highest worker's is mugged first. An empty one
-    /// does not wait.
+    /// Deques of an earlier grant are mugged first; of those that one grant withdraws, the highest worker's is mugged first.
     ///
     /// # Errors
     /// In this order: [`Finished`](Refusal::Finished) (11), [`QuantumOpen`](Refusal::QuantumOpen) (12),
