@@ -33,10 +33,10 @@ fn withdraw(memory: &mut Memory, head: usize, waiting: usize, g: usize, workers:
     ensures rest { λ _. ⌜ SameButEnds (parts-before memory) (parts-after memory) ⌝ }
 {
     let mut joined = waiting;
-    let mut worker = workers;
-    while g < worker {
-        worker -= 1;
-        joined = join(memory, head, joined, worker);
+    let mut left = workers;
+    while g < left {
+        left -= 1;
+        joined = join(memory, head, joined, left);
     }
     joined
 }

@@ -10,13 +10,13 @@ use Prim.Native.Nat.{ℕ, zero, suc, _≤_, _<_}
 use native.Mathlib.Nat.{eq-or-lt-of-le, le-of-suc-le-suc, not-suc-le-zero}
 use native.Mathlib.Omega.{arith}
 use lib.Dec.{leb}
-use lib.ListN.{length, getD, take, drop, drop-of-length-le}
+use lib.ListN.{length, getD, take, drop, drop-of-length-le, length-map}
 use lib.Seq.{drop-append-le, take-suc, take-length, length-take-le}
 use borrow.Author.Tests.{leb-true, leb-false}
 use Rattle.model.specs.Tests.{keep}
 use Rattle.model.specs.Machine.{withdrawn-deques}
 use Rattle.model.specs.Muggings.{HighestFirst}
-use Rattle.lists.proofs.Lists.{keep-append, at-place}
+use Rattle.lists.proofs.Lists.{keep-append, at-place, place-of}
 use Rattle.laws.proofs.Deques.{non-empty, filled-within}
 
 one-reversed : (d : List ℕ) → reverse (keep non-empty (d ∷ [])) ≡ keep non-empty (d ∷ [])
@@ -134,3 +134,10 @@ module _ (g : ℕ) (ds : List (List ℕ)) where
         only = all-of-them .only;
         all = λ w up filled. all-of-them .all w (filled-within ds w filled) up filled;
       }
+
+  -- so where a worker from g on has a task, something is withdrawn
+  pub some-withdrawn : (w : ℕ) → g ≤ w → 1 ≤ length (getD ds w []) → 1 ≤ length (withdrawn-deques g ds)
+  some-withdrawn w up filled =
+      let h = highest-first in
+      let place = place-of w (h .workers) (h .all w up filled) in
+      omega (arith, place .1, ap length (h .theirs), length-map (h .workers) (λ v. getD ds v []))

@@ -7,17 +7,17 @@ use Rattle.allot.proofs.withdraw.Statement.{statement}
 use Rattle.allot.proofs.withdraw.Tie as tie
 
 abbrev Inv-loop : tie.InvT-loop
-Inv-loop memory₀ head waiting g workers joined₀ worker₀ memory joined worker =
-    Withdrawing (parts memory₀ .ends) head waiting g workers (parts memory .ends) joined worker × SameButEnds (parts memory₀) (parts memory)
+Inv-loop memory₀ head waiting g workers joined₀ left₀ memory joined left =
+    Withdrawing (parts memory₀ .ends) head waiting g workers (parts memory .ends) joined left × SameButEnds (parts memory₀) (parts memory)
 
 abbrev μ-loop : tie.MeasureT-loop
-μ-loop memory₀ head waiting g workers joined₀ worker₀ memory joined worker = worker
+μ-loop memory₀ head waiting g workers joined₀ left₀ memory joined left = left
 
 loop-holds : tie.Need-loop-holds Inv-loop μ-loop
 loop-holds c = (withdrawing-none (c .pre), no-move)
 
 join-requires : tie.Need-join-requires Inv-loop μ-loop
-join-requires c κs = withdrawing-room (c .before .before .before .pre) (c .before .before .loop .inv .0) (c .before .loop-test .taken)
+join-requires c κs = withdrawing-room (c .before .before .before .pre) (c .before .before .loop .inv .0) (omega arith) (omega arith)
 
 loop-again : tie.Need-loop-again Inv-loop μ-loop
 loop-again c =
