@@ -1,6 +1,6 @@
--- Demands 2 and 3 over a job: whatever job accepted plans and calls reach has what the demands say.
+-- Demands 2 and 3, and request U6's sum, over a job: whatever job accepted plans and calls reach has what they say.
 -- Assumes nothing.
-use mathlib.Core.Path.{_≡_, sym, ap, subst}
+use mathlib.Core.Path.{_≡_, sym, ap, subst, _∙_}
 use mathlib.Core.Bool.{true, false}
 use mathlib.Core.Logic.{_↔_}
 use mathlib.Core.List.{List}
@@ -8,7 +8,8 @@ use Prim.Native.Nat.{ℕ, _<_}
 use lib.ListN.{getD}
 use Rattle.model.specs.Plan.{Plan, tasks}
 use Rattle.model.specs.Machine.{State, Call, status}
-use Rattle.laws.proofs.Theorems.{demand-three, once-and-in-order, finished-exactly}
+use Rattle.model.specs.WholeTicks.{all-counted}
+use Rattle.laws.proofs.Theorems.{demand-three, once-and-in-order, finished-exactly, whole-ticks}
 use Rattle.memory.specs.declared.Job.{Job}
 use Rattle.memory.specs.Jobs.{job-state}
 use Rattle.engine.specs.Reached.{Reached}
@@ -30,4 +31,5 @@ demands {plan} {calls} r =
           (λ (s : State). (status s ≡ 3) ↔ ((t : ℕ) → t < tasks (plan .graph) → getD (s .execution .worked) t false ≡ true))
           (sym (r .its-state))
           (finished-exactly sound calls);
+      adds-up = ap (λ (s : State). all-counted (s .execution .counts)) (r .its-state) ∙ whole-ticks sound calls .adds-up;
     }

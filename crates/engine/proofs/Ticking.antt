@@ -5,7 +5,6 @@ use mathlib.Core.Bool.{Bool, true, false}
 use mathlib.Core.List.{List, [], _∷_}
 use Prim.Native.Nat.{ℕ, _+_, _≤_, _<_}
 use native.Mathlib.Omega.{arith}
-use borrow.Author.Tests.{eqb-false}
 use lib.ListN.{length}
 use Rattle.model.specs.Questions.{accepted, first-no}
 use Rattle.model.specs.Plan.{Graph, Plan}
@@ -21,7 +20,7 @@ use Rattle.memory.specs.View.{view}
 use Rattle.memory.specs.Sound.{Sizes, Kept, Sound}
 use Rattle.memory.specs.Cycles.{count-limit, Room}
 use Rattle.memory.specs.Jobs.{lent, quantum-view, job-plan, job-state}
-use Rattle.memory.proofs.Views.{workers-shown, finished-shown}
+use Rattle.memory.proofs.Views.{workers-shown}
 use Rattle.memory.proofs.Words.{same-tail}
 use Rattle.turn.specs.Turns.{TickTurn, Ticked}
 use Rattle.call_questions.specs.Asked.{tick-asked}
@@ -109,9 +108,6 @@ module _ {plan : Plan} {calls : List Call} {memory words : List ℕ} (choices : 
         sound = sound-job some;
         one-each = one-each;
         all-workers = simp workers-shown at (facts .below-allotment);
-        unfinished =
-            eqb-false (numbers-in words .done) (numbers-in words .tasks)
-            (sym (finished-shown (parts memory) (numbers-in words) (r .kept .done-right)) ∙ facts .unfinished);
         room = room;
       }
 

@@ -23,9 +23,14 @@ use Rattle.laws.proofs.Placement.{stands, standing-once}
 pub bounded-more : {most more : ℕ} {e : Execution} → most ≤ more → Bounded most e → Bounded more e
 bounded-more {most} {more} {e} h b = record { workers = omega arith; lines = omega arith }
 
+-- a steal in vain moves nothing
+pub vain-bounded : {most : ℕ} {e : Execution} → Bounded most e → Bounded most (failed-steal e)
+unfolding failed-steal
+vain-bounded b = record { workers = b .workers; lines = b .lines }
+
 pub cycle-bounded : {most : ℕ} {e : Execution} → (graph : Graph) → Bounded most e → (w choice : ℕ) → w < length (e .deques) →
     Bounded most (cycle graph w choice e)
-unfolding work-cycle mug-cycle successful-steal failed-steal
+unfolding work-cycle mug-cycle successful-steal
 cycle-bounded {most} {e} graph b w choice here =
     cycle-cases graph w choice e
     (λ c after. Bounded most after)
@@ -53,13 +58,13 @@ cycle-bounded {most} {e} graph b w choice here =
             workers = omega (arith, b .workers);
             lines = omega (arith, busy-at-most (set robbed w (taken-by-steal (deque-of e choice))), b .workers);
           };
-      failing = λ own none few. record { workers = b .workers; lines = b .lines };
+      failing = λ own none few. vain-bounded b;
     })
 
 pub cycles-bounded : {most : ℕ} {e : Execution} → (graph : Graph) → Bounded most e → (w : ℕ) (choices : List ℕ) →
     w + length choices ≤ length (e .deques) → Bounded most (cycles graph w choices e)
 cycles-bounded {most} {e} graph b w choices h =
-    cycles-keep graph (Bounded most) (λ v c before l f q. cycle-bounded graph q v c l) choices w e h b
+    cycles-keep graph (Bounded most) (λ v c before l q. cycle-bounded graph q v c l) (λ before q. vain-bounded q) choices w e h b
 
 -- ---- tasks
 

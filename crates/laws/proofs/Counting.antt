@@ -43,11 +43,12 @@ pub record Spends (e e′ : Execution) : Type 0 where
 
 pub cycles-spend : (graph : Graph) (w : ℕ) (choices : List ℕ) (e : Execution) → w + length choices ≤ length (e .deques) →
     Spends e (cycles graph w choices e)
+unfolding failed-steal
 cycles-spend graph w choices e h =
     let c = cycles-counted graph w choices e h in
     record {
       workers = cycles-allotment graph choices w e h;
       usage = omega (arith, c .work, c .mug, c .nonsteal-usage);
       mugs = cycles-keep graph (λ after. muggings after ≡ muggings e)
-          (λ v c before l f q. cycle-mugs graph v c before ∙ q) choices w e h refl;
+          (λ v c before l q. cycle-mugs graph v c before ∙ q) (λ before q. q) choices w e h refl;
     }

@@ -17,7 +17,8 @@ use Rattle.model.specs.History.{ClosedQuantum, CurrentQuantum, none, begun-with
 use Rattle.model.specs.History.{run}
 use Rattle.model.specs.Statements.{SoundPlan}
 use Rattle.laws.specs.Invariants.{busy, Placed, Bounded, Tallied}
-use Rattle.laws.specs.Reached.{Unstarted, Arranged, granted-in, largest-closed, largest-granted, all-counted, OpenQuantum, Measured}
+use Rattle.model.specs.WholeTicks.{all-counted}
+use Rattle.laws.specs.Reached.{Unstarted, Arranged, granted-in, largest-closed, largest-granted, OpenQuantum, Measured}
 use Rattle.laws.specs.Reached.{CountsFit}
 use Rattle.lists.proofs.Tests.{true-is-not-false}
 use Rattle.lists.proofs.Lists.{count-set-none, count-set-at-most}
@@ -26,7 +27,7 @@ use Rattle.laws.proofs.Placement.{cycles-placed, cycles-tallied}
 use Rattle.laws.proofs.Bounds.{bounded-more, cycles-bounded}
 use Rattle.laws.proofs.Grants.{grant-allotment, grant-placed, grant-bounded, first-grant-placed, first-grant-bounded}
 use Rattle.laws.proofs.Grants.{no-grant-unstarted}
-use Rattle.laws.proofs.Meaning.{cycles-counted, all-kinds, successes-are-steals, made-at-most}
+use Rattle.laws.proofs.Meaning.{cycles-counted, all-kinds, successes-are-steals, one-cycle-each}
 use Rattle.laws.proofs.Accepted.{GrantAccepted, TickAccepted, tick-cases, tick-execution, tick-started}
 use Rattle.laws.proofs.Runs.{history-closed, run-keeps, by-moves}
 
@@ -298,7 +299,7 @@ module _ {plan : Plan} (sound : SoundPlan plan) where
       fits = omega (arith, t .one-each)
 
       few : length (cycles-made (plan .graph) 0 choices e) ≤ most-workers
-      few = omega (arith, made-at-most (plan .graph) choices 0 e, t .one-each, m .deques-at-most .workers)
+      few = omega (arith, one-cycle-each (plan .graph) choices 0 e, t .one-each, m .deques-at-most .workers)
 
       used : after .counts .usage ≤ e .counts .usage + length (cycles-made (plan .graph) 0 choices e)
       used = omega (arith, cycles-counted (plan .graph) 0 choices e fits .nonsteal-usage, all-kinds (cycles-made (plan .graph) 0 choices e))

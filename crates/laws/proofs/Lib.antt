@@ -4,6 +4,7 @@
 -- Cycles, Placement, Bounds, Grants: what a worker's cycle, a tick's cycles and a grant keep.
 -- Accepted, Runs: accepted calls, and how a property is carried through a list of calls. Histories: where the tasks stand and how large the
 -- counts are after any calls. Progress: some worker works or mugs. Order: each task once and in order. Meaning: what the counts count.
+-- WholeTicks: what they add up to, and the tick that finishes a job.
 -- Counting: what a tick's cycles spend. Ladder: what is used of the desires, and that the powers of R have it. Powers: the open quantum,
 -- and what a quantum's end does to the desire. Tops: the table of top desires, and that the desire stops there.
 -- PairingLaw: the partners of the inefficient quanta. MugLimitLaw: the balance that bounds the mugs. SpentLaw: what the quanta so far have
@@ -23,6 +24,7 @@ pub mod Muggings
 pub mod Meaning
 pub mod Counting
 pub mod Grants
+pub mod WholeTicks
 pub mod Histories
 pub mod Progress
 pub mod Order

@@ -1,15 +1,14 @@
 -- The counts mean what they say: work, mug, steal and successful steals are the numbers of those cycles among the cycles made, and the
 -- nonsteal usage grows in a tick by the work and mug cycles of that tick and is 0 after a grant.
 -- Assumes nothing.
-use mathlib.Core.Path.{_≡_, refl}
-use mathlib.Core.Bool.{Bool, true, false, cond}
+use mathlib.Core.Path.{_≡_, refl, ap}
 use mathlib.Core.List.{List, [], _∷_, _++_}
 use Prim.Native.Nat.{ℕ, suc, _+_, _≤_}
 use native.Mathlib.Omega.{arith}
 use lib.ListN.{length}
 use Rattle.model.specs.Plan.{Plan, Graph}
 use Rattle.model.specs.Machine.{Counts, Execution, State, Cycle, works-on, mugs-deque, steals-from, steals-nothing, work-cycle, mug-cycle}
-use Rattle.model.specs.Machine.{successful-steal, failed-steal, cycle, cycle-of, cycles, cycles-made, finished, fresh, grant, tick, Call}
+use Rattle.model.specs.Machine.{successful-steal, failed-steal, cycle, cycle-of, turn, cycles, cycles-made, fresh, grant, tick, Call}
 use Rattle.model.specs.History.{History, beginning, history-grant, history-tick, history-step, run}
 use Rattle.laws.specs.Meaning.{is-work, is-mug, is-steal, is-success, count-of, works-in, mugs-in, steals-in, successes-in, Counted}
 use Rattle.laws.specs.Meaning.{CountsMean, UsageMeans}
@@ -39,18 +38,17 @@ successes-are-steals (mugs-deque d ∷ made) = omega (arith, successes-are-steal
 successes-are-steals (steals-from v ∷ made) = omega (arith, successes-are-steals made)
 successes-are-steals (steals-nothing ∷ made) = omega (arith, successes-are-steals made)
 
--- a worker makes at most one cycle in a tick
-pub made-at-most : (graph : Graph) (choices : List ℕ) (w : ℕ) (e : Execution) → length (cycles-made graph w choices e) ≤ length choices
+-- each worker makes one cycle in a tick
+pub one-cycle-each : (graph : Graph) (choices : List ℕ) (w : ℕ) (e : Execution) → length (cycles-made graph w choices e) ≡ length choices
 unfolding cycles-made
-made-at-most graph [] w e = omega arith
-made-at-most graph (choice ∷ choices) w e = go (finished e) (made-at-most graph choices (suc w) (cycle graph w choice e))
-  where
-    go : (b : Bool) → length (cycles-made graph (suc w) choices (cycle graph w choice e)) ≤ length choices →
-        length (cond b [] (cycle-of w choice e ∷ cycles-made graph (suc w) choices (cycle graph w choice e))) ≤ suc (length choices)
-    go true h = omega arith
-    go false h = omega arith
+one-cycle-each graph [] w e = refl
+one-cycle-each graph (choice ∷ choices) w e = ap suc (one-cycle-each graph choices (suc w) (turn graph w choice e))
 
 -- ---- a cycle and a tick's cycles
+
+vain-counted : (e : Execution) → Counted (steals-nothing ∷ []) (e .counts) (failed-steal e .counts)
+unfolding count-of failed-steal
+vain-counted e = omega arith
 
 pub cycle-counted : (graph : Graph) (w choice : ℕ) (e : Execution) →
     Counted (cycle-of w choice e ∷ []) (e .counts) (cycle graph w choice e .counts)
@@ -62,7 +60,7 @@ cycle-counted graph w choice e =
       working = λ t rest own. omega arith;
       mugging = λ oldest others own waiting. omega arith;
       stealing = λ own none two. omega arith;
-      failing = λ own none few. omega arith;
+      failing = λ own none few. vain-counted e;
     })
 
 counted-then : {made more : List Cycle} {before between after : Counts} → Counted made before between → Counted more between after →
@@ -87,7 +85,8 @@ pub cycles-counted : (graph : Graph) (w : ℕ) (choices : List ℕ) (e : Executi
 cycles-counted graph w choices e h =
     cycles-made-keep graph
     (λ made after. Counted made (e .counts) (after .counts))
-    (λ made v choice before l f p. counted-then p (cycle-counted graph v choice before))
+    (λ made v choice before l p. counted-then p (cycle-counted graph v choice before))
+    (λ made before p. counted-then p (vain-counted before))
     choices
     []
     w

@@ -59,18 +59,26 @@ cycle-in-order graph w choice e =
       failing = λ own none few. refl;
     })
 
+-- what each cycle of a tick adds
+cycle-added : (made : List Cycle) (c : Cycle) (after : Execution) →
+    in-order (made ++ (c ∷ [])) after ≡ mugged-in made ++ in-order (c ∷ []) after
+cycle-added made c after =
+    ap (λ (l : List (List ℕ)). l ++ after .muggable) (mugged-in-append made (c ∷ []))
+    ∙ append-assoc (mugged-in made) (mugged-in (c ∷ [])) (after .muggable)
+
 tick-in-order : (plan : Plan) (choices : List ℕ) (h : History) → call-answer (ticks choices) (h .state) ≡ accepted →
     in-order (h .made ++ cycles-made (plan .graph) 0 choices (h .state .execution)) (tick plan choices (h .state) .execution)
     ≡ in-order (h .made) (h .state .execution)
+unfolding mugged-in failed-steal
 tick-in-order plan choices h yes-answer =
     rw (tick-execution plan choices (h .state))
     (cycles-made-keep (plan .graph)
     (λ made after. in-order made after ≡ in-order (h .made) (h .state .execution))
-    (λ made w choice e inside unfinished p.
-    ap (λ (l : List (List ℕ)). l ++ cycle (plan .graph) w choice e .muggable) (mugged-in-append made (cycle-of w choice e ∷ []))
-    ∙ append-assoc (mugged-in made) (mugged-in (cycle-of w choice e ∷ [])) (cycle (plan .graph) w choice e .muggable)
+    (λ made w choice e inside p.
+    cycle-added made (cycle-of w choice e) (cycle (plan .graph) w choice e)
     ∙ ap (λ (l : List (List ℕ)). mugged-in made ++ l) (cycle-in-order (plan .graph) w choice e)
     ∙ p)
+    (λ made e p. cycle-added made steals-nothing (failed-steal e) ∙ p)
     choices (h .made) 0 (h .state .execution)
     (omega (arith, tick-accepted choices (h .state) yes-answer .one-each)) refl)
 

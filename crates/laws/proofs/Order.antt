@@ -24,7 +24,7 @@ use Rattle.lists.proofs.Lists.{alike, all-set-at, all-set-from, place-of}
 use Rattle.laws.proofs.Deques.{occurrences-append, occurs, found}
 use Rattle.laws.proofs.Deques.{place-once}
 use Rattle.laws.proofs.Readiness.{Waits, is-predecessor, ready-is}
-use Rattle.laws.proofs.Placement.{front-waits, cycle-placed}
+use Rattle.laws.proofs.Placement.{front-waits, vain-placed, cycle-placed}
 use Rattle.laws.proofs.Cycles.{cycle-cases, cycles-made-keep}
 use Rattle.laws.proofs.Histories.{arranged, unstarted-cycles, flags-length}
 use Rattle.laws.proofs.Accepted.{TickAccepted, tick-execution}
@@ -88,19 +88,24 @@ one-more {graph} {order} {worked} t l front o = record { flagged = flags; after-
 -- ---- a cycle, a tick
 
 module _ {graph : Graph} (sound : SoundGraph graph) where
+  vain-in-order : (made : List Cycle) (e : Execution) → InOrder graph (tasks-in made) (e .worked) →
+      InOrder graph (tasks-in (made ++ (steals-nothing ∷ []))) (failed-steal e .worked)
+  unfolding failed-steal tasks-in
+  vain-in-order made e o = rw (tasks-in-append made (steals-nothing ∷ []), append-nil) o
+
   cycle-in-order : (made : List Cycle) (w choice : ℕ) (e : Execution) → Placed graph e → InOrder graph (tasks-in made) (e .worked) →
       InOrder graph (tasks-in (made ++ (cycle-of w choice e ∷ []))) (cycle graph w choice e .worked)
   cycle-in-order made w choice e placed o =
       cycle-cases graph w choice e
       (λ c after. InOrder graph (tasks-in (made ++ (c ∷ []))) (after .worked))
-      (unfold work-cycle mug-cycle successful-steal failed-steal tasks-in in
+      (unfold work-cycle mug-cycle successful-steal tasks-in in
       record {
         working = λ t rest own.
             let front = front-waits placed w t rest own in
             rw (tasks-in-append made (works-on t ∷ [])) (one-more t (rw (placed .flags) (front .of-plan)) front o);
         mugging = λ oldest others own waiting. rw (tasks-in-append made (mugs-deque oldest ∷ []), append-nil) o;
         stealing = λ own none two. rw (tasks-in-append made (steals-from choice ∷ []), append-nil) o;
-        failing = λ own none few. rw (tasks-in-append made (steals-nothing ∷ []), append-nil) o;
+        failing = λ own none few. vain-in-order made e o;
       })
 
   record Ordered (made : List Cycle) (e : Execution) : Type 0 where
@@ -112,8 +117,9 @@ module _ {graph : Graph} (sound : SoundGraph graph) where
       InOrder graph (tasks-in (made ++ cycles-made graph 0 choices e)) (cycles graph 0 choices e .worked)
   cycles-in-order choices made e h placed o =
       cycles-made-keep graph Ordered
-      (λ made w choice e l f q.
+      (λ made w choice e l q.
       record { place = cycle-placed sound (q .place) w choice l; order = cycle-in-order made w choice e (q .place) (q .order) })
+      (λ made e q. record { place = vain-placed (q .place); order = vain-in-order made e (q .order) })
       choices
       made
       0

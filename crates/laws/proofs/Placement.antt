@@ -13,16 +13,16 @@ use borrow.Author.Tests.{eqb-true, eqb-false, lt-ltb}
 use Rattle.model.specs.Tests.{every, keep, is-empty, member}
 use Rattle.model.specs.Plan.{Graph, tasks, successors-of}
 use Rattle.model.specs.Machine.{Execution, deque-of, ready, completed, released, left-by-steal, taken-by-steal, work-cycle, mug-cycle}
-use Rattle.model.specs.Machine.{successful-steal, failed-steal, cycle, cycles}
+use Rattle.model.specs.Machine.{successful-steal, failed-steal, cycle, turn, cycles, finished}
 use Rattle.model.specs.Statements.{SoundGraph}
 use Rattle.laws.specs.Invariants.{occurrences, in-deques, waiting-work, Placed, Tallied}
 use Rattle.lists.proofs.Tests.{true-is-not-false, not-true-is-false, one-or-none, is-one, and-right}
-use Rattle.lists.proofs.Lists.{member-is, count-set-more}
+use Rattle.lists.proofs.Lists.{member-is, count-set-more, all-set-at}
 use Rattle.laws.proofs.Deques.{occurrences-append, occurrences-keep, occurs, no-member, in-deques-set, one-deque}
 use Rattle.laws.proofs.Stealing.{left-then-taken, apart, victim-within}
 use Rattle.laws.proofs.Readiness.{ready-elsewhere, ready-kept, not-ready, is-ready, above, inside, successor-once, Waits, waits}
 use Rattle.laws.proofs.Readiness.{is-waiting, not-waiting-worked, not-waiting-unready}
-use Rattle.laws.proofs.Cycles.{cycle-cases, cycles-keep}
+use Rattle.laws.proofs.Cycles.{cycle-cases, fails, turn-unfinished, turn-finished, cycles-keep}
 
 -- ---- what a placed execution tells
 
@@ -218,9 +218,13 @@ module _ {graph : Graph} {e : Execution} (sound : SoundGraph graph) (placed : Pl
       unrobbed : getD (set (e .deques) choice left) w [] ≡ getD (e .deques) w []
       unrobbed = getD-set-other (e .deques) choice w left [] (apart e w choice own two)
 
+-- a steal in vain moves nothing
+pub vain-placed : {graph : Graph} {e : Execution} → Placed graph e → Placed graph (failed-steal e)
+unfolding failed-steal
+vain-placed placed = record { flags = placed .flags; once = placed .once; filled = placed .filled; ordered = placed .ordered }
+
 pub cycle-placed : {graph : Graph} {e : Execution} → SoundGraph graph → Placed graph e → (w choice : ℕ) → w < length (e .deques) →
     Placed graph (cycle graph w choice e)
-unfolding failed-steal
 cycle-placed {graph} {e} sound placed w choice here =
     cycle-cases graph w choice e
     (λ c after. Placed graph after)
@@ -228,18 +232,60 @@ cycle-placed {graph} {e} sound placed w choice here =
       working = work-placed sound placed w here;
       mugging = mug-placed sound placed w here;
       stealing = λ own none two. steal-placed sound placed w here choice own two;
-      failing = λ own none few. record { flags = placed .flags; once = placed .once; filled = placed .filled; ordered = placed .ordered };
+      failing = λ own none few. vain-placed placed;
     })
+
+-- ---- a finished job
+
+-- no task stands anywhere, so that the turn of each worker, a steal in vain, is the cycle that it would have taken
+module _ {graph : Graph} {e : Execution} (placed : Placed graph e) where
+  none-waits : finished e ≡ true → (t : ℕ) → Waits graph (e .worked) t → ⊥
+  unfolding finished
+  none-waits f t here = true-is-not-false (all-set-at (e .worked) f t (rw (placed .flags) (here .of-plan))) (here .unworked)
+
+  no-task : finished e ≡ true → (w : ℕ) → deque-of e w ≡ []
+  no-task f w = go (deque-of e w) refl
+    where
+      go : (d : List ℕ) → deque-of e w ≡ d → d ≡ []
+      go [] p = refl
+      go (t ∷ rest) p = absurd (none-waits f t (front-waits placed w t rest p))
+
+  no-muggable : finished e ≡ true → e .muggable ≡ []
+  unfolding every in-deques
+  no-muggable f = go (e .muggable) refl
+    where
+      go : (ds : List (List ℕ)) → e .muggable ≡ ds → ds ≡ []
+      go [] p = refl
+      go ([] ∷ ds) p = absurd (true-is-not-false (rw p at (placed .filled)) refl)
+      go ((t ∷ rest) ∷ ds) p =
+          let here = occurs t (t ∷ rest) (List·Memᴰ·head refl) in
+          let many : in-deques t (e .muggable) ≡ occurrences t (t ∷ rest) + in-deques t ds = ap (in-deques t) p in
+          absurd (none-waits f t (stands placed t (omega arith)))
+
+  pub turn-is-cycle : (w choice : ℕ) → turn graph w choice e ≡ cycle graph w choice e
+  turn-is-cycle w choice = go (finished e) refl
+    where
+      go : (b : Bool) → finished e ≡ b → turn graph w choice e ≡ cycle graph w choice e
+      go false f = turn-unfinished graph w choice e f
+      go true f =
+          let few : length (deque-of e choice) ≡ 0 = ap length (no-task f choice) in
+          turn-finished graph w choice e f ∙ sym (fails graph w choice e (no-task f w) (no-muggable f) (omega arith))
+
+-- ---- a tick's cycles
 
 pub cycles-placed : {graph : Graph} {e : Execution} → SoundGraph graph → Placed graph e → (w : ℕ) (choices : List ℕ) →
     w + length choices ≤ length (e .deques) → Placed graph (cycles graph w choices e)
 cycles-placed {graph} {e} sound placed w choices h =
-    cycles-keep graph (Placed graph) (λ v c before l f q. cycle-placed sound q v c l) choices w e h placed
+    cycles-keep graph (Placed graph) (λ v c before l q. cycle-placed sound q v c l) (λ before q. vain-placed q) choices w e h placed
 
 -- work counts the tasks that are worked
+pub vain-tallied : {e : Execution} → Tallied e → Tallied (failed-steal e)
+unfolding failed-steal
+vain-tallied tallied = record { work-is-tasks = tallied .work-is-tasks }
+
 pub cycle-tallied : {graph : Graph} {e : Execution} → SoundGraph graph → Placed graph e → Tallied e → (w choice : ℕ) →
     w < length (e .deques) → Tallied (cycle graph w choice e)
-unfolding work-cycle mug-cycle successful-steal failed-steal
+unfolding work-cycle mug-cycle successful-steal
 cycle-tallied {graph} {e} sound placed tallied w choice here =
     cycle-cases graph w choice e
     (λ c after. Tallied after)
@@ -252,7 +298,7 @@ cycle-tallied {graph} {e} sound placed tallied w choice here =
           };
       mugging = λ oldest others own waiting. record { work-is-tasks = tallied .work-is-tasks };
       stealing = λ own none two. record { work-is-tasks = tallied .work-is-tasks };
-      failing = λ own none few. record { work-is-tasks = tallied .work-is-tasks };
+      failing = λ own none few. vain-tallied tallied;
     })
 
 pub cycles-tallied : {graph : Graph} {e : Execution} → SoundGraph graph → Placed graph e → Tallied e → (w : ℕ) (choices : List ℕ) →
@@ -260,7 +306,8 @@ pub cycles-tallied : {graph : Graph} {e : Execution} → SoundGraph graph → Pl
 cycles-tallied {graph} {e} sound placed tallied w choices h =
     cycles-keep graph
     (λ after. Placed graph after × Tallied after)
-    (λ v c before l f q. (cycle-placed sound (q .0) v c l, cycle-tallied sound (q .0) (q .1) v c l))
+    (λ v c before l q. (cycle-placed sound (q .0) v c l, cycle-tallied sound (q .0) (q .1) v c l))
+    (λ before q. (vain-placed (q .0), vain-tallied (q .1)))
     choices
     w
     e

@@ -21,7 +21,7 @@ use Rattle.laws.proofs.Deques.{which-deque, filled-within}
 use Rattle.laws.proofs.Stealing.{left-filled, victim-after, others-after}
 use Rattle.laws.proofs.Readiness.{Waits, is-ready, above}
 use Rattle.laws.proofs.Placement.{waiting-stands}
-use Rattle.laws.proofs.Cycles.{cycle-cases, cycle-allotment}
+use Rattle.laws.proofs.Cycles.{cycle-cases, cycle-allotment, cycles-onward}
 use Rattle.laws.proofs.Meaning.{cycles-counted}
 use Rattle.laws.proofs.Histories.{arranged, workers-placed}
 use Rattle.laws.proofs.Counting.{spent, Progressing}
@@ -88,10 +88,9 @@ spent-kept graph choices w e h = let c = cycles-counted graph w choices e h in o
 -- with a task in the deque of worker v, who has yet to act, one of the workers from w on works or mugs
 reaches : (graph : Graph) (choices : List ℕ) (w v : ℕ) (e : Execution) → finished e ≡ false → w + length choices ≡ length (e .deques) →
     w ≤ v → 1 ≤ length (deque-of e v) → spent e < spent (cycles graph w choices e)
-unfolding cycles
 reaches graph [] w v e f all l h = let here = filled-within (e .deques) v h in absurd (omega arith)
 reaches graph (choice ∷ choices) w v e f all l h =
-    rw f (go (did graph w choice e) (reaches graph choices (suc w) v (cycle graph w choice e)))
+    rw (cycles-onward graph w choice choices e f) (go (did graph w choice e) (reaches graph choices (suc w) v (cycle graph w choice e)))
   where
     same : length (cycle graph w choice e .deques) ≡ length (e .deques)
     same = cycle-allotment graph w choice e
@@ -111,8 +110,7 @@ reaches graph (choice ∷ choices) w v e f all l h =
 -- with a muggable deque the first worker works or mugs
 mugs-first : (graph : Graph) (choice : ℕ) (choices : List ℕ) (e : Execution) → finished e ≡ false →
     suc (length choices) ≡ length (e .deques) → (e .muggable ≡ [] → ⊥) → spent e < spent (cycles graph 0 (choice ∷ choices) e)
-unfolding cycles
-mugs-first graph choice choices e f all some = rw f (go (did graph 0 choice e))
+mugs-first graph choice choices e f all some = rw (cycles-onward graph 0 choice choices e f) (go (did graph 0 choice e))
   where
     go : Did 0 e (cycle graph 0 choice e) → spent e < spent (cycles graph 1 choices (cycle graph 0 choice e))
     go (spends more) =

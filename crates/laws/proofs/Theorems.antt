@@ -10,6 +10,7 @@ use Rattle.model.specs.Statements.{SoundPlan, Progress, Demand3, MugBound, OneI
 use Rattle.model.specs.Statements.{StopsAtTop, EndsAsRecorded}
 use Rattle.model.specs.Thefts.{StealsHalf}
 use Rattle.model.specs.Muggings.{MuggedInTurn}
+use Rattle.model.specs.WholeTicks.{WholeTicks}
 use Rattle.laws.specs.Invariants.{Bounded}
 use Rattle.laws.specs.Reached.{Arranged, Measured, CountsFit, largest-granted}
 use Rattle.laws.specs.Spent.{SpentOnly}
@@ -28,6 +29,7 @@ use Rattle.laws.proofs.Histories as Histories
 use Rattle.laws.proofs.Meaning as Meaning
 use Rattle.laws.proofs.Thefts as Thefts
 use Rattle.laws.proofs.Muggings as Muggings
+use Rattle.laws.proofs.WholeTicks as WholeTicks
 
 module _ {plan : Plan} (sound : SoundPlan plan) (calls : List Call) where
   -- "While a job is unfinished, each tick with a worker granted does at least one work or mug tick."
@@ -121,3 +123,8 @@ module _ {plan : Plan} (sound : SoundPlan plan) (calls : List Call) where
   -- them": what was mugged so far, and then what waits, is what all grants so far withdrew, each of them in falling worker order
   pub mugged-in-turn : MuggedInTurn plan calls
   mugged-in-turn = Muggings.mugged-in-turn plan calls
+
+  -- "work, mug and steal ticks add up to the sum of the granted counts over all accepted ticks, a sum read from the history of calls"; and
+  -- "In the tick that finishes a job, the workers after the one that finished it shall each count an unsuccessful steal"
+  pub whole-ticks : WholeTicks plan calls
+  whole-ticks = WholeTicks.whole-ticks plan calls

@@ -6,8 +6,9 @@ use mathlib.Core.List.{List, [], _∷_}
 use Prim.Native.Nat.{ℕ, _+_, _*_, _≤_, _<_, max}
 use lib.ListN.{replicate}
 use Rattle.model.specs.Plan.{Plan, Graph, tasks, most-tasks, longest-quantum}
-use Rattle.model.specs.Machine.{Counts, Execution, State, allotment, opened, finished, quantum-limit, most-workers}
+use Rattle.model.specs.Machine.{Execution, State, allotment, opened, finished, quantum-limit, most-workers}
 use Rattle.model.specs.History.{ClosedQuantum, CurrentQuantum, none, begun-with, History}
+use Rattle.model.specs.WholeTicks.{all-counted}
 use Rattle.laws.specs.Invariants.{Placed, Bounded, Tallied}
 
 -- before a count above 0 is granted nothing stands anywhere, and nothing is worked
@@ -35,10 +36,6 @@ unfoldable pub largest-granted : History → ℕ
 largest-granted h = max (largest-closed (h .closed-quanta)) (granted-in (h .current))
 
 -- ---- how large the counts can be
-
--- all cycles that were counted
-abbrev pub all-counted : Counts → ℕ
-all-counted c = c .works .work + c .mugs .mug + c .steals .steal
 
 -- an open quantum that has had so many ticks
 pub record OpenQuantum (plan : Plan) (s : State) (ticks : ℕ) : Type 0 where

@@ -15,6 +15,8 @@ use Rattle.model.specs.Machine.{State, Call, grants, ticks, call-answer,
 use Rattle.model.specs.Machine.{grant-questions, stolen-count, efficient, next-desire, top-desires, desire-at, most-workers}
 use Rattle.model.specs.History
 use Rattle.model.specs.History.{ClosedQuantum, CurrentQuantum, none, begun-with, run, work-order}
+use Rattle.model.specs.WholeTicks
+use Rattle.model.specs.WholeTicks.{all-counted, worker-ticks}
 use Rattle.model.specs.Log
 use Rattle.model.specs.Log.{run-log, run-calls, log-answer}
 use Rattle.model.specs.Label
@@ -88,6 +90,10 @@ seven l = plan-bytes 2 80 l seven-tasks
 -- the same with a utilization of 1 percent and L = 1, so that every quantum with a work or mug cycle is efficient
 easy-seven : List ℕ
 easy-seven = plan-bytes 2 1 1 seven-tasks
+
+-- the same with R = 3, so that the second quantum can have three workers
+wide-seven : List ℕ
+wide-seven = plan-bytes 3 1 1 seven-tasks
 
 -- ten tasks: 0 is followed by 1 and 2, 1 by 3 and 4, 3 by 5 and 6, 2 and 4 by 7, 5 and 6 by 8, 7 and 8 by 9
 ten : List ℕ
@@ -166,9 +172,9 @@ log-1 = 0x01 ∷ 0x81 ∷ 0x00 ∷ 0x81 ∷ 0x00 ∷ 0x02 ∷ 0x82 ∷ 0x00 ∷ 
 
 document-rows : List Row
 document-rows =
-    -- 1
+    -- 1, as request U6 has it: "example 1 then ends in `4 0 2 0 0`"
     row (program (0x00 ∷ 0x11 ∷ [] ++ plan-a ++ log-1))
-    (51 ∷ 32 ∷ 52 ∷ 32 ∷ 52 ∷ 32 ∷ 50 ∷ 32 ∷ 50 ∷ 32 ∷ 52 ∷ 32 ∷ 48 ∷ 32 ∷ 49 ∷ 32 ∷ 48 ∷ 32 ∷ 48 ∷ 10 ∷ [])
+    (51 ∷ 32 ∷ 52 ∷ 32 ∷ 52 ∷ 32 ∷ 50 ∷ 32 ∷ 50 ∷ 32 ∷ 52 ∷ 32 ∷ 48 ∷ 32 ∷ 50 ∷ 32 ∷ 48 ∷ 32 ∷ 48 ∷ 10 ∷ [])
     -- 2
     ∷ row (shown plan-a
     (0x01 ∷ 0x81 ∷ 0x00 ∷ 0x81 ∷ 0x00 ∷ 0x00 ∷ 0x80 ∷ 0x80 ∷ 0x01 ∷ 0x81 ∷ 0x00 ∷ 0x81 ∷ 0x00 ∷ 0x01 ∷ 0x81 ∷ 0x00 ∷ []))
@@ -254,6 +260,24 @@ four-at-work choice =
 two-grants : List Call
 two-grants = four-at-work 0 ++ (grants 2 ∷ ticks (0 ∷ 0 ∷ []) ∷ grants 0 ∷ [])
 
+-- a tick of worker 0 alone, then n ticks of three workers with these choices, each in a quantum of its own
+three-at-work : ℕ → List ℕ → List Call
+three-at-work n choices = grants 1 ∷ ticks (0 ∷ []) ∷ flatMap (λ i. grants 3 ∷ ticks choices ∷ []) (below n)
+
+-- two ticks of worker 0 alone, then three workers, with two ticks in a quantum
+then-three : List Call
+then-three = grants 1 ∷ ticks (0 ∷ []) ∷ ticks (0 ∷ []) ∷ grants 3 ∷ []
+
+-- the ten numbers after calls
+counted : List ℕ → List Call → List ℕ
+counted bytes calls = counters (plan-of bytes) (after-calls bytes calls) 0
+
+-- work, mug and steal cycles together, the cycles made, and the sum of the granted counts
+sums : List ℕ → List Call → List ℕ
+sums bytes calls =
+    let h = run (plan-of bytes) calls in
+    all-counted (h .state .execution .counts) ∷ length (h .made) ∷ worker-ticks (plan-of bytes) calls ∷ []
+
 statuses-from : Plan → State → List Call → List ℕ
 statuses-from plan s [] = status s ∷ []
 statuses-from plan s (call ∷ calls) = status s ∷ statuses-from plan (step plan call s) calls
@@ -319,7 +343,7 @@ grant-rows =
     -- the last round is open: 12 comes before 13
     ∷ row (grant-number 1 (step (plan-of plan-a) (grants 1) (fresh-with 4095))) (12 ∷ [])
     -- the 4,096th round finishes example 1; with a round fewer left, the log counts its second grant and the two ticks as refused
-    ∷ row (shown-from plan-a (fresh-with 4094) log-1) (3 ∷ 4 ∷ 4 ∷ 2 ∷ 2 ∷ 4 ∷ 0 ∷ 1 ∷ 0 ∷ 0 ∷ [])
+    ∷ row (shown-from plan-a (fresh-with 4094) log-1) (3 ∷ 4 ∷ 4 ∷ 2 ∷ 2 ∷ 4 ∷ 0 ∷ 2 ∷ 0 ∷ 0 ∷ [])
     ∷ row (shown-from plan-a (fresh-with 4095) log-1) (1 ∷ 2 ∷ 4 ∷ 2 ∷ 1 ∷ 2 ∷ 0 ∷ 0 ∷ 0 ∷ 3 ∷ [])
     -- piece 0 in worker 0's line, and not as an orphan
     ∷ row (placed plan-a (grants 1 ∷ [])) (1 ∷ 0 ∷ [])
@@ -407,12 +431,46 @@ steal-rows =
     -- of 7, 8, 6, 4, 2 it has 4, 2, too
     ∷ row (placed thirteen half-of-five) (3 ∷ 7 ∷ 8 ∷ 6 ∷ 2 ∷ 4 ∷ 2 ∷ [])
     -- two pieces moved, and one success is counted; neither was worked in that tick
-    ∷ row (counters (plan-of thirteen) (after-calls thirteen half-of-five) 0) (1 ∷ 4 ∷ 13 ∷ 4 ∷ 2 ∷ 4 ∷ 0 ∷ 1 ∷ 1 ∷ 0 ∷ [])
+    ∷ row (counted thirteen half-of-five) (1 ∷ 4 ∷ 13 ∷ 4 ∷ 2 ∷ 4 ∷ 0 ∷ 1 ∷ 1 ∷ 0 ∷ [])
     -- the thief works what it took from the front on: 4, which leaves 2
     ∷ row (placed thirteen (half-of-five ++ (grants 2 ∷ ticks (0 ∷ 0 ∷ []) ∷ []))) (2 ∷ 8 ∷ 6 ∷ 1 ∷ 2 ∷ [])
     -- three thieves in one tick: the second takes half of what the first left, the third half of what the first took
     ∷ row (placed thirteen three-thieves) (2 ∷ 7 ∷ 8 ∷ 1 ∷ 4 ∷ 1 ∷ 6 ∷ 1 ∷ 2 ∷ [])
-    ∷ row (counters (plan-of thirteen) (after-calls thirteen three-thieves) 0) (1 ∷ 4 ∷ 13 ∷ 8 ∷ 4 ∷ 4 ∷ 0 ∷ 4 ∷ 3 ∷ 0 ∷ [])
+    ∷ row (counted thirteen three-thieves) (1 ∷ 4 ∷ 13 ∷ 8 ∷ 4 ∷ 4 ∷ 0 ∷ 4 ∷ 3 ∷ 0 ∷ [])
+    ∷ []
+
+-- request U6: "In the tick that finishes a job, the workers after the one that finished it shall each count an unsuccessful steal."
+last-tick-rows : List Row
+last-tick-rows =
+    -- the finisher is the first of three: workers 1 and 2 steal in vain in each of six ticks, the last one too
+    row (counted wide-seven (three-at-work 5 (0 ∷ 1 ∷ 2 ∷ []))) (1 ∷ 6 ∷ 7 ∷ 9 ∷ 3 ∷ 6 ∷ 0 ∷ 10 ∷ 0 ∷ 0 ∷ [])
+    ∷ row (counted wide-seven (three-at-work 6 (0 ∷ 1 ∷ 2 ∷ []))) (3 ∷ 7 ∷ 7 ∷ 9 ∷ 3 ∷ 7 ∷ 0 ∷ 12 ∷ 0 ∷ 0 ∷ [])
+    -- it is the second: worker 0 steals in vain before it, and is not charged again; worker 2 is charged
+    ∷ row (counted wide-seven (three-at-work 3 (0 ∷ 0 ∷ 0 ∷ []))) (1 ∷ 6 ∷ 7 ∷ 9 ∷ 3 ∷ 6 ∷ 0 ∷ 4 ∷ 2 ∷ 0 ∷ [])
+    ∷ row (counted wide-seven (three-at-work 4 (0 ∷ 0 ∷ 0 ∷ []))) (3 ∷ 7 ∷ 7 ∷ 9 ∷ 3 ∷ 7 ∷ 0 ∷ 6 ∷ 2 ∷ 0 ∷ [])
+    -- it is the last: workers 0 and 1 steal in vain before it, and nobody is charged
+    ∷ row (counted wide-seven (three-at-work 3 (0 ∷ 1 ∷ 0 ∷ []))) (1 ∷ 6 ∷ 7 ∷ 9 ∷ 3 ∷ 6 ∷ 0 ∷ 4 ∷ 1 ∷ 0 ∷ [])
+    ∷ row (counted wide-seven (three-at-work 4 (0 ∷ 1 ∷ 0 ∷ []))) (3 ∷ 7 ∷ 7 ∷ 9 ∷ 3 ∷ 7 ∷ 0 ∷ 6 ∷ 1 ∷ 0 ∷ [])
+    -- one worker only
+    ∷ row (sums (one-task 2) (grants 1 ∷ ticks (0 ∷ []) ∷ [])) (1 ∷ 1 ∷ 1 ∷ [])
+    -- above the finishing tick was the round's L-th, and the wanted count stayed 9; here it is the first of two, and the round stays open
+    ∷ row (counted (chain 3 1 2 3) (then-three ++ (ticks (0 ∷ 0 ∷ 0 ∷ []) ∷ []))) (3 ∷ 3 ∷ 3 ∷ 3 ∷ 3 ∷ 3 ∷ 0 ∷ 2 ∷ 0 ∷ 0 ∷ [])
+    ∷ row (quantum-kept (after-calls (chain 3 1 2 3) (then-three ++ (ticks (0 ∷ 0 ∷ 0 ∷ []) ∷ [])))) (1 ∷ 1 ∷ [])
+    -- other choices of workers 1 and 2 count the same, and no line moves; but 17 asks them as before
+    ∷ row (counted (chain 3 1 2 3) (then-three ++ (ticks (0 ∷ 2 ∷ 1 ∷ []) ∷ []))) (3 ∷ 3 ∷ 3 ∷ 3 ∷ 3 ∷ 3 ∷ 0 ∷ 2 ∷ 0 ∷ 0 ∷ [])
+    ∷ row (placed (chain 3 1 2 3) (then-three ++ (ticks (0 ∷ 2 ∷ 1 ∷ []) ∷ []))) (0 ∷ 0 ∷ 0 ∷ [])
+    ∷ row (answered (chain 3 1 2 3) then-three (ticks (0 ∷ 0 ∷ 3 ∷ []))) (17 ∷ [])
+    -- the charge is no usage: one work cycle in the round
+    ∷ row (after-calls (chain 3 1 2 3) (then-three ++ (ticks (0 ∷ 0 ∷ 0 ∷ []) ∷ [])) .execution .counts .usage ∷ []) (1 ∷ [])
+    -- "work, mug and steal ticks add up to the sum of the granted counts": 1 + 6 × 3; 1 + 4 × 3
+    ∷ row (flatMap (λ n. sums wide-seven (three-at-work n (0 ∷ 1 ∷ 2 ∷ []))) (0 ∷ 1 ∷ 6 ∷ 7 ∷ []))
+    (1 ∷ 1 ∷ 1 ∷ 4 ∷ 4 ∷ 4 ∷ 19 ∷ 19 ∷ 19 ∷ 19 ∷ 19 ∷ 19 ∷ [])
+    ∷ row (sums wide-seven (three-at-work 4 (0 ∷ 1 ∷ 0 ∷ []))) (13 ∷ 13 ∷ 13 ∷ [])
+    -- refused ticks and grants add nothing, ticks of no worker neither: 1 + 1 + 3 + 3
+    ∷ row (sums (chain 3 1 2 3)
+    (grants 5 ∷ ticks (0 ∷ []) ∷ grants 1 ∷ ticks (1 ∷ []) ∷ ticks (0 ∷ []) ∷ grants 1 ∷ ticks (0 ∷ []) ∷ grants 0 ∷ ticks [] ∷ ticks []
+    ∷ grants 4 ∷ grants 3 ∷ ticks (0 ∷ 0 ∷ []) ∷ ticks (0 ∷ 0 ∷ 3 ∷ []) ∷ ticks (0 ∷ 0 ∷ 0 ∷ []) ∷ ticks (0 ∷ 0 ∷ 0 ∷ []) ∷ ticks [] ∷ []))
+    (8 ∷ 8 ∷ 8 ∷ [])
     ∷ []
 
 -- round's end
@@ -508,29 +566,31 @@ program-rows =
     ∷ []
 
 our-rows : List Row
-our-rows = plan-rows ++ grant-rows ++ withdrawal-rows ++ tick-rows ++ steal-rows ++ quantum-rows ++ log-rows ++ program-rows
+our-rows =
+    plan-rows ++ grant-rows ++ withdrawal-rows ++ tick-rows ++ steal-rows ++ last-tick-rows ++ quantum-rows ++ log-rows ++ program-rows
 
 pub rows : List Row
 rows = document-rows ++ our-rows
 
 -- every row holds
 pub table : failing 0 rows ≡ []
-unfolding same row-holds failing task plan-bytes diamond one-task seven easy-seven ten thirteen four-lines link chain refusal after-calls
-    quantum-kept shown-from shown answered listed placed labelled document-rows seven-tasks header-fields task-fields fresh-with
+unfolding same row-holds failing task plan-bytes diamond one-task seven easy-seven wide-seven ten thirteen four-lines link chain refusal
+    after-calls quantum-kept shown-from shown answered listed placed labelled document-rows seven-tasks header-fields task-fields fresh-with
     grant-number quantum-shown current-shown history-shown shown-twice half-of-five three-thieves two-withdrawn four-at-work two-grants
-    statuses-from statuses plan-rows grant-rows withdrawal-rows tick-rows steal-rows quantum-rows log-rows program-rows our-rows rows below
-    every keep member count-set all-set first-no flatMap Plan.predecessors Plan.number Plan.header Plan.task-bits Plan.successor-fields
-    Plan.plan-of Plan.fields-ok Plan.two-differ Plan.targets-ok Plan.task-questions Plan.all-preceded Plan.one-exit Plan.header-questions
-    Plan.graph-questions Plan.plan-questions Plan.plan-answer Machine.finished Machine.fresh Machine.grant-questions Machine.kept-deques
-    Machine.withdrawn-deques Machine.first-task-placed Machine.grant Machine.tick-questions Machine.cycle-of Machine.ready Machine.released
-    Machine.stolen-count Machine.left-by-steal Machine.taken-by-steal Machine.work-cycle Machine.mug-cycle Machine.successful-steal
-    Machine.failed-steal Machine.cycle Machine.cycles Machine.cycles-made Machine.ticked Machine.efficient Machine.satisfied
-    Machine.next-desire Machine.closes Machine.closed Machine.tick Machine.top-desires Machine.call-answer Machine.step Machine.status
-    History.beginning History.history-grant History.history-tick History.history-step History.run-from History.run History.tasks-in
-    Log.entries-up-to Log.entries Log.run-calls Log.run-log Log.log-answer Label.lines-from Label.lines Label.label-answer Label.label
-    Counters.decimal-up-to Counters.decimal Counters.spaced Counters.counters Counters.counters-line Counters.counters-answer
-    Counters.buffer-after Digits.first-above Digits.digit-count Program.plan-length Program.plan-part Program.log-part
-    Program.input-questions Program.refused-line Program.log-output Program.program
+    three-at-work then-three counted sums statuses-from statuses plan-rows grant-rows withdrawal-rows tick-rows steal-rows last-tick-rows
+    quantum-rows log-rows program-rows our-rows rows below every keep member count-set all-set first-no flatMap Plan.predecessors
+    Plan.number Plan.header Plan.task-bits Plan.successor-fields Plan.plan-of Plan.fields-ok Plan.two-differ Plan.targets-ok
+    Plan.task-questions Plan.all-preceded Plan.one-exit Plan.header-questions Plan.graph-questions Plan.plan-questions Plan.plan-answer
+    Machine.finished Machine.fresh Machine.grant-questions Machine.kept-deques Machine.withdrawn-deques Machine.first-task-placed
+    Machine.grant Machine.tick-questions Machine.cycle-of Machine.ready Machine.released Machine.stolen-count Machine.left-by-steal
+    Machine.taken-by-steal Machine.work-cycle Machine.mug-cycle Machine.successful-steal Machine.failed-steal Machine.cycle Machine.turn-of
+    Machine.turn Machine.cycles Machine.cycles-made Machine.ticked Machine.efficient Machine.satisfied Machine.next-desire Machine.closes
+    Machine.closed Machine.tick Machine.top-desires Machine.call-answer Machine.step Machine.status History.beginning History.history-grant
+    History.history-tick History.history-step History.run-from History.run History.tasks-in WholeTicks.accepted-calls
+    WholeTicks.granted-ticks Log.entries-up-to Log.entries Log.run-calls Log.run-log Log.log-answer Label.lines-from Label.lines
+    Label.label-answer Label.label Counters.decimal-up-to Counters.decimal Counters.spaced Counters.counters Counters.counters-line
+    Counters.counters-answer Counters.buffer-after Digits.first-above Digits.digit-count Program.plan-length Program.plan-part
+    Program.log-part Program.input-questions Program.refused-line Program.log-output Program.program
 table = refl
 
 -- examples 3 and 4 by themselves, for a program that meets them from contracts alone: Plan A is accepted, a first grant of 2 is refused by

@@ -272,23 +272,24 @@ performed graph w steals-nothing e = failed-steal e
 unfoldable pub cycle : Graph → ℕ → ℕ → Execution → Execution
 cycle graph w choice e = performed graph w (cycle-of w choice e) e
 
--- what the workers do that come after the one that finished the job: "later workers take no cycle"
-abbrev pub after-the-finish : List ℕ → Execution → Execution
-after-the-finish choices e = e
+-- what worker w does in its turn of a tick: its cycle. Of a finished job, not "the tick ends there; later workers take no cycle", as in
+-- document 01, but a steal in vain. Request U6: "In the tick that finishes a job, the workers after the one that finished it shall each
+-- count an unsuccessful steal."
+unfoldable pub turn-of : ℕ → ℕ → Execution → Cycle
+turn-of w choice e = cond (finished e) steals-nothing (cycle-of w choice e)
 
--- "Workers act in number order, one cycle each", from worker w on, a choice each; "the job is finished and the tick ends there"
+unfoldable pub turn : Graph → ℕ → ℕ → Execution → Execution
+turn graph w choice e = performed graph w (turn-of w choice e) e
+
+-- "Workers act in number order, one cycle each", from worker w on, a choice each
 unfoldable pub cycles : Graph → ℕ → List ℕ → Execution → Execution
 cycles graph w [] e = e
-cycles graph w (choice ∷ choices) e =
-    let onward = cycles graph (suc w) choices (cycle graph w choice e) in
-    cond (finished e) (after-the-finish (choice ∷ choices) e) onward
+cycles graph w (choice ∷ choices) e = cycles graph (suc w) choices (turn graph w choice e)
 
 -- the same cycles, as what each worker did
 unfoldable pub cycles-made : Graph → ℕ → List ℕ → Execution → List Cycle
 cycles-made graph w [] e = []
-cycles-made graph w (choice ∷ choices) e =
-    let onward = cycle-of w choice e ∷ cycles-made graph (suc w) choices (cycle graph w choice e) in
-    cond (finished e) [] onward
+cycles-made graph w (choice ∷ choices) e = turn-of w choice e ∷ cycles-made graph (suc w) choices (turn graph w choice e)
 
 abbrev pub ticks-of : Quantum → ℕ
 ticks-of idle = 0

@@ -1,7 +1,6 @@
--- A tick's cycles: the model's cycles of all workers are those of the workers that are left, from what memory and words show now; and they
--- end where the job is finished.
+-- A tick's cycles: the model's cycles of all workers are those of the workers that are left, from what memory and words show now.
 use mathlib.Core.Path.{_≡_, refl, sym, ap, _∙_}
-use mathlib.Core.Bool.{Bool, true, false}
+use mathlib.Core.Bool.{Bool, true}
 use mathlib.Core.List.{List, [], _∷_}
 use Prim.Native.Nat.{ℕ, zero, suc, _+_, _≤_, _<_}
 use native.Mathlib.Omega.{arith}
@@ -10,19 +9,21 @@ use lib.Dec.{ltb}
 use lib.ListN.{length, getD, drop, drop-of-length-le}
 use lib.Seq.{drop-cons}
 use borrow.Author.Needs.{needs}
-use borrow.Author.Tests.{ltb-true, eq-eqb, ne-eqb}
+use borrow.Author.Tests.{ltb-true}
 use Rattle.model.specs.Tests.{every}
 use Rattle.model.specs.Plan.{Graph}
-use Rattle.model.specs.Machine.{Execution, finished, cycle, cycles}
+use Rattle.model.specs.Machine.{Execution, cycle, cycles}
 use Rattle.lists.proofs.Tests.{and-left, and-right}
 use Rattle.lists.proofs.Lists.{count-set-at-most}
+use Rattle.laws.specs.Invariants.{Placed}
+use Rattle.laws.proofs.Placement.{turn-is-cycle}
 use Rattle.memory.specs.Parts.{Parts, parts, SameGraph}
 use Rattle.memory.specs.Words.{Numbers, word, numbers-in, SameTail}
 use Rattle.memory.specs.Graphs.{graph}
 use Rattle.memory.specs.View.{size-at, worked-view, view}
 use Rattle.memory.specs.Sound.{Sound}
 use Rattle.memory.specs.Cycles.{Room, Grown}
-use Rattle.memory.proofs.Views.{workers-shown, flags-shown, finished-shown}
+use Rattle.memory.proofs.Views.{workers-shown, flags-shown}
 use Rattle.memory.proofs.Words.{tail-then}
 use Rattle.tally.specs.declared.Tally.{Tally}
 use Rattle.tally.specs.Tallies.{no-tally, add-work, numbers-at, Addable, Settled}
@@ -41,21 +42,16 @@ every-place test (x ∷ xs) (suc i) h l = every-place test xs i (and-right (test
 
 -- ---- the model's cycles
 
-module _ (its-graph : Graph) (w : ℕ) (e : Execution) where
-  cycles-none : (choices : List ℕ) → length choices ≡ 0 → cycles its-graph w choices e ≡ e
+module _ (its-graph : Graph) (choices : List ℕ) (i : ℕ) (e : Execution) where
+  none-left : length choices ≤ i → cycles its-graph i (drop i choices) e ≡ e
   unfolding cycles
-  cycles-none [] h = refl
-  cycles-none (c ∷ cs) h = absurd (omega arith)
+  none-left h = rw (drop-of-length-le choices h)
 
-  cycles-ended : (choices : List ℕ) → finished e ≡ true → cycles its-graph w choices e ≡ e
+  one-more : i < length choices → Placed its-graph e →
+      cycles its-graph i (drop i choices) e ≡ cycles its-graph (suc i) (drop (suc i) choices) (cycle its-graph i (getD choices i 0) e)
   unfolding cycles
-  cycles-ended [] h = refl
-  cycles-ended (c ∷ cs) h = rw h
-
-  cycles-onward : (c : ℕ) (cs : List ℕ) → finished e ≡ false →
-      cycles its-graph w (c ∷ cs) e ≡ cycles its-graph (suc w) cs (cycle its-graph w c e)
-  unfolding cycles
-  cycles-onward c cs h = rw h
+  one-more l placed =
+      rw (drop-cons choices i 0 l) (ap (cycles its-graph (suc i) (drop (suc i) choices)) (turn-is-cycle placed i (getD choices i 0)))
 
 done-of-tasks : {p : Parts} {m : Numbers} → Sound p m → m .done ≤ m .tasks
 done-of-tasks {p} {m} sound =
@@ -134,38 +130,33 @@ module _ {memory words choices : List ℕ} (tick : TickTurn memory words choices
     abbrev e : Execution
     e = view (parts memory′) m′
 
-    -- the tally can be added
-    pub addable : Addable words′ i t
-    addable =
+    -- with more cycles, all of them steals, no count grows by more
+    grown-to : (n : ℕ) → i ≤ n → Grown n (numbers-in words) (numbers-at (numbers-in words′) n t)
+    grown-to n more = search needs
+
+    -- the tally can be added, with these cycles or more
+    pub addable : (n : ℕ) → i ≤ n → n ≤ 64 → Addable words′ n t
+    addable n more few =
         let same = u .same-words .same-others in
         record {
           size = u .same-words .same-length ∙ tick .size;
           done-fits = omega (arith, done-of-tasks (u .sound), u .sound .few-tasks);
           waited = omega (arith, u .mugged, same 9 (λ e. omega arith), same 4 (λ e. omega arith));
           head-in-ring = rw (same 8 (λ e. omega arith)) (tick .sound .kept .head-in-ring);
-          counted = u .counted;
-          room = room-grown (tick .room) (u .grown) (omega (arith, u .part, few-choices));
+          counted = omega (arith, u .counted);
+          room = room-grown (tick .room) (grown-to n more) (omega arith);
         }
 
-    -- the job is finished, or all workers have had their cycle, and the tally was added
-    module _ {words″ : List ℕ} (settled : Settled words′ i t words″) where
-      over : cycles its-graph i (drop i choices) e ≡ e → Ticked memory words choices memory′ words″
-      over ended =
-          record {
-            shows = ap (view (parts memory′)) (settled .numbers) ∙ sym (u .shows ∙ ended);
-            sound = rw (settled .numbers) (u .sound);
-            grown = rw (settled .numbers) (grown-more (omega (arith, u .part, few-choices)) (u .grown));
-            same-graph = u .same-graph;
-            tail = tail-then (words-tail (u .same-words)) (settled .tail);
-          }
-
-      pub tick-finished : m′ .done ≡ m′ .tasks → Ticked memory words choices memory′ words″
-      tick-finished all =
-          over (cycles-ended its-graph i e (drop i choices)
-          (finished-shown (parts memory′) m′ (u .sound .kept .done-right) ∙ eq-eqb (m′ .done) (m′ .tasks) all))
-
-      pub tick-over : length choices ≤ i → Ticked memory words choices memory′ words″
-      tick-over h = over (cycles-none its-graph i e (drop i choices) (ap length (drop-of-length-le choices h)))
+    -- all workers have had their cycle, and the tally was added
+    pub tick-over : {words″ : List ℕ} → length choices ≤ i → Settled words′ i t words″ → Ticked memory words choices memory′ words″
+    tick-over all settled =
+        record {
+          shows = ap (view (parts memory′)) (settled .numbers) ∙ sym (u .shows ∙ none-left its-graph choices i e all);
+          sound = rw (settled .numbers) (u .sound);
+          grown = rw (settled .numbers) (grown-more (omega (arith, u .part, few-choices)) (u .grown));
+          same-graph = u .same-graph;
+          tail = tail-then (words-tail (u .same-words)) (settled .tail);
+        }
 
     -- ---- the next worker's turn
 
@@ -183,21 +174,19 @@ module _ {memory words choices : List ℕ} (tick : TickTurn memory words choices
           }
 
       pub idle-turn : getD (parts memory′ .ends) (size-at i) 0 ≡ 0 → IdleTurn memory′ words′ i (getD choices i 0) t
-      idle-turn empty = record { turn = next-turn; empty = empty; addable = addable }
+      idle-turn empty = record { turn = next-turn; empty = empty; addable = addable i (omega arith) (omega (arith, few-choices)) }
 
-      onward : {memory″ words″ : List ℕ} {t″ : Tally} → (m′ .done ≡ m′ .tasks → ⊥) →
+      onward : {memory″ words″ : List ℕ} {t″ : Tally} →
           Cycled (parts memory′) m′ i (getD choices i 0) (parts memory″) (numbers-at (numbers-in words″) (i + 1) t″) →
           SameButSuccesses words′ words″ → t″ .works .0 + t″ .mugs .0 ≤ i + 1 → Underway memory words choices memory″ words″ t″ (i + 1)
-      onward unfinished c same few =
+      onward c same few =
           let same-plan : graph (parts memory′) (m′ .tasks) ≡ its-graph =
           rw (u .same-graph .same-first, u .same-graph .same-second, u .grown .same-tasks) in
           record {
             part = omega arith;
             shows =
                 u .shows
-                ∙ ap (λ (cs : List ℕ). cycles its-graph i cs e) (drop-cons choices i 0 l)
-                ∙ cycles-onward its-graph i e (getD choices i 0) (drop (suc i) choices)
-                (finished-shown (parts memory′) m′ (u .sound .kept .done-right) ∙ ne-eqb (m′ .done) (m′ .tasks) unfinished)
+                ∙ one-more its-graph choices i e l (rw (← same-plan) (u .sound .lawful .placed))
                 ∙ rw (c .shows, add-one, same-plan);
             sound = c .sound;
             grown = grown-then (u .grown) (c .grown);
@@ -216,14 +205,14 @@ module _ {memory words choices : List ℕ} (tick : TickTurn memory words choices
         pub work-turn : WorkTurn (parts memory′) m′ i
         work-turn = record { turn = next-turn .turn; filled = some }
 
-        pub onward-work : {memory″ : List ℕ} {t″ : Tally} → (m′ .done ≡ m′ .tasks → ⊥) →
+        pub onward-work : {memory″ : List ℕ} {t″ : Tally} →
             (WorkTurn (parts memory′) m′ i → Worked (parts memory′) m′ i (parts memory″)) → t″ ≡ add-work t →
             Underway memory words choices memory″ words′ t″ (i + 1)
-        onward-work unfinished promised added =
-            onward unfinished
+        onward-work promised added =
+            onward
             (rw (added, work-added (numbers-in words′) i t) (cycled-work next-turn some (promised work-turn))) (same-words words′)
             (rw added (omega (arith, u .counted)))
 
-      pub onward-idle : {memory″ words″ : List ℕ} {t″ : Tally} → (m′ .done ≡ m′ .tasks → ⊥) →
+      pub onward-idle : {memory″ words″ : List ℕ} {t″ : Tally} →
           Idled memory′ words′ i (getD choices i 0) t memory″ words″ t″ → Underway memory words choices memory″ words″ t″ (i + 1)
-      onward-idle unfinished idled = onward unfinished (idled .cycled) (idled .same-words) (idled .counted)
+      onward-idle idled = onward (idled .cycled) (idled .same-words) (idled .counted)

@@ -60,7 +60,6 @@ pub record TickTurn (memory words choices : List ℕ) : Type 0 where
   pub sound : Sound (parts memory) (numbers-in words)
   pub one-each : length choices ≡ numbers-in words .workers
   pub all-workers : every (λ choice. ltb choice (numbers-in words .workers)) choices ≡ true
-  pub unfinished : numbers-in words .done ≡ numbers-in words .tasks → ⊥
   pub room : Room count-limit (numbers-in words)
 
 pub record Ticked (memory words choices memory′ words′ : List ℕ) : Type 0 where

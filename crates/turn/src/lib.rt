@@ -31,13 +31,12 @@ pub fn idle_cycle(
     t
 }
 
-// The cycles of a tick: the workers in number order, one cycle each, with a choice each, until the job is finished. Only a work cycle can
-// finish it. A worker whose deque is not empty works.
+// The cycles of a tick: the workers in number order, one cycle each, with a choice each. A worker whose deque is not empty works. Once the
+// job is finished no task stands anywhere, so the workers after the finisher count a steal in vain each, whatever their choices.
 pub fn cycles(memory: &mut Memory, words: &mut Words, choices: &[u8])
     requires { ⌜ TickTurn (now memory) (now words) (now choices) ⌝ }
     ensures { λ _. ⌜ Ticked (now (memory .entry)) (now (words .entry)) (now (choices .entry)) (now (memory .exit)) (now (words .exit)) ⌝ }
 {
-    let left = words[memory::TASKS] - words[memory::DONE];
     let mut t = tally::no_tally();
     let mut w = 0;
     while w < choices.len() {
@@ -45,11 +44,6 @@ pub fn cycles(memory: &mut Memory, words: &mut Words, choices: &[u8])
         if memory[size_at] > 0 {
             work::work_cycle(memory, w);
             t = tally::add_work(t);
-            let works = t.works;
-            if works.number() == left {
-                tally::settle(words, w + 1, t);
-                return;
-            }
         } else {
             let choice = choices[w] as usize;
             t = idle_cycle(memory, words, w, choice, t);

@@ -90,7 +90,10 @@ impl Pair {
             Call::Tick(choices) => {
                 let answer = self.reference.tick(choices);
                 if let Ok(report) = &answer {
-                    totals.count_thefts(&report.cycles);
+                    totals.count_thefts(report);
+                    if self.reference.is_finished() {
+                        totals.count_finish(report);
+                    }
                 }
                 reference_number(&answer)
             }

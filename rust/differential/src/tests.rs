@@ -5,7 +5,7 @@ use std::time::Duration;
 use reference::generator::logs::marathon_log;
 use reference::generator::plans::{marathon_draft, sound_draft, Draft};
 use reference::generator::Random;
-use reference::{theft, withdrawal, DigitCount, Entries, Rules, MOST_QUANTA};
+use reference::{rest, theft, withdrawal, DigitCount, Entries, Rest, Rules, MOST_QUANTA};
 
 use crate::accept::fresh;
 use crate::compare::{self, Part};
@@ -187,20 +187,30 @@ fn parts_with(rules: Rules, cases: u64) -> Vec<Part> {
     parts.flatten().collect()
 }
 
+/// The same of bent rules, by which more than 25 of the cases differ.
+fn parts_with_bent(rules: Rules, cases: u64) -> Vec<Part> {
+    let parts = parts_with(rules, cases);
+    assert!(parts.len() > 25, "{} with {rules:?}", parts.len());
+    parts
+}
+
+#[test]
+fn the_right_rules_do_not_differ() {
+    assert!(parts_with(Rules::default(), 1_000).is_empty());
+}
+
 #[test]
 fn another_theft_is_found() {
     let right = Rules::default();
-    assert!(parts_with(right, 200).is_empty());
     for theft in theft::BENT {
-        let parts = parts_with(Rules { theft, ..right }, 200);
+        // Not in all: most logs have few steals that succeed, and most of these take one task.
+        let parts = parts_with_bent(Rules { theft, ..right }, 200);
         let part = if theft.each_succeeds {
             "successful steals"
         } else {
             "deques"
         };
         assert!(parts.contains(&part));
-        // Not in all: most logs have few steals that succeed, and most of these take one task.
-        assert!(parts.len() > 25, "{} with {theft:?}", parts.len());
     }
 }
 
@@ -208,11 +218,25 @@ fn another_theft_is_found() {
 fn another_turn_is_found() {
     let right = Rules::default();
     for turn in withdrawal::BENT {
-        let parts = parts_with(Rules { turn, ..right }, 1_000);
+        // Not in all: it takes a grant that withdraws two deques, or one while others wait.
+        let parts = parts_with_bent(Rules { turn, ..right }, 1_000);
         // The grant itself shows it, before anything is taken.
         assert!(parts.iter().all(|&part| part == "muggable deques"));
-        // Not in all: it takes a grant that withdraws two deques, or one while others wait.
-        assert!(parts.len() > 25, "{} with {turn:?}", parts.len());
+    }
+}
+
+#[test]
+fn another_rest_is_found() {
+    let right = Rules::default();
+    for rest in rest::BENT {
+        // Not in all: it takes a log that finishes its job, mostly with workers after the finisher.
+        let parts = parts_with_bent(Rules { rest, ..right }, 1_000);
+        let part = match rest {
+            Rest::EachSucceeds => "successful steals",
+            Rest::EachMugs => "usage",
+            _ => "steal cycles",
+        };
+        assert!(parts.iter().all(|&found| found == part));
     }
 }
 
@@ -336,6 +360,7 @@ fn a_run_reaches_every_refusal() {
     assert!(totals.digits[1..].iter().all(|&count| count > 0));
     assert!(totals.thefts.iter().all(|&count| count > 0));
     assert!(totals.withdrawals.iter().all(|&count| count > 0) && totals.behind > 0);
+    assert!(totals.finishes.iter().all(|&count| count > 0));
 }
 
 #[test]

@@ -2,7 +2,7 @@
 
 use std::fmt;
 
-use reference::{Cycle, DigitCount, GrantReport};
+use reference::{Cycle, DigitCount, GrantReport, TickReport};
 
 use crate::pair::{Call, Reference};
 
@@ -32,6 +32,8 @@ pub struct Totals {
     pub withdrawals: [u64; 5],
     /// Those of them that made two or more muggable while others waited.
     pub behind: u64,
+    /// Ticks of all calls that finished a job, by the workers after the finisher: none, one, two, three, or more.
+    pub finishes: [u64; 5],
     /// Logs run whole.
     pub logs: u64,
     /// The calls in them; the states were compared at the log's end.
@@ -63,6 +65,7 @@ impl Default for Totals {
             thefts: [0; 5],
             withdrawals: [0; 5],
             behind: 0,
+            finishes: [0; 5],
             logs: 0,
             log_calls: 0,
             log_refusals: [0; 21],
@@ -106,13 +109,19 @@ impl Totals {
         }
     }
 
-    /// Counts the steal cycles of a tick.
-    pub fn count_thefts(&mut self, cycles: &[Cycle]) {
-        for cycle in cycles {
+    /// Counts the steal cycles of a tick. Those of workers after the finisher are in vain.
+    pub fn count_thefts(&mut self, report: &TickReport) {
+        for cycle in &report.cycles {
             if let Cycle::Steal { stolen, .. } = *cycle {
                 add(&mut self.thefts, usize::from(stolen.min(4)));
             }
         }
+        self.thefts[0] += report.rested as u64;
+    }
+
+    /// Counts a tick that finished a job.
+    pub fn count_finish(&mut self, report: &TickReport) {
+        add(&mut self.finishes, report.rested.min(4));
     }
 
     /// Counts an accepted grant by what it withdrew.
@@ -207,6 +216,12 @@ impl fmt::Display for Totals {
             "{:>12}  grants that withdrew two or more deques while others waited; one deque, two, three, or more: {:?}",
             self.behind,
             &self.withdrawals[1..]
+        )?;
+        writeln!(
+            out,
+            "{:>12}  ticks that finished a job with no worker after the finisher; with one, two, three, or more: {:?}",
+            self.finishes[0],
+            &self.finishes[1..]
         )?;
         writeln!(out, "{:>12}  accepted ticks of no worker", ticks(0, 0))?;
         writeln!(out, "{:>12}  of 1 to 8 workers", ticks(1, 8))?;

@@ -16,9 +16,9 @@
 //! job.tick(&[0])?; // the quantum was efficient: the job now desires 2 workers
 //! job.grant(job.desire())?;
 //! job.tick(&[0, 0])?; // worker 1 has nothing to work on and tries to steal from worker 0
-//! job.tick(&[0, 0])?;
+//! job.tick(&[0, 0])?; // worker 0 finishes the job, and worker 1 counts a steal in vain
 //! assert!(job.is_finished());
-//! assert_eq!(&*job.line(0), "3 4 4 2 2 4 0 1 0 0");
+//! assert_eq!(&*job.line(0), "3 4 4 2 2 4 0 2 0 0");
 //! # Ok(())
 //! # }
 //! ```

@@ -35,8 +35,11 @@ pub enum Branch {
     StealVainOther,
     StealVainSelf,
     FinishAlone,
-    FinishSkipping,
+    FinishLast,
+    FinishCharged,
+    FinishFirst,
     FinishAtLastTick,
+    FinishAtLastTickCharged,
     EndInefficient,
     EndInefficientDeprived,
     EndGrown,
@@ -48,7 +51,7 @@ pub enum Branch {
 use Branch::*;
 
 /// Every branch with what it is.
-pub const BRANCHES: [(Branch, &str); 29] = [
+pub const BRANCHES: [(Branch, &str); 32] = [
     (GrantZero, "grant: of 0"),
     (GrantFirst, "grant: the first above 0"),
     (
@@ -75,9 +78,15 @@ pub const BRANCHES: [(Branch, &str); 29] = [
     (StealMoreOdd, "tick: steal of two or more, one more left"),
     (StealVainOther, "tick: steal in vain from another"),
     (StealVainSelf, "tick: steal in vain from itself"),
-    (FinishAlone, "tick: finish, no later worker"),
-    (FinishSkipping, "tick: finish, later workers skipped"),
+    (FinishAlone, "tick: finish, one worker granted"),
+    (FinishLast, "tick: finish by the last of two or more"),
+    (FinishCharged, "tick: finish, later workers charged"),
+    (FinishFirst, "tick: finish by the first of three or more"),
     (FinishAtLastTick, "tick: finish in a quantum's last tick"),
+    (
+        FinishAtLastTickCharged,
+        "tick: finish in a quantum's last tick, later workers charged",
+    ),
     (EndInefficient, "end: inefficient, satisfied"),
     (EndInefficientDeprived, "end: inefficient, deprived"),
     (EndGrown, "end: efficient, satisfied, desire grows"),
@@ -220,14 +229,24 @@ impl Coverage {
         for (worker, cycle) in report.cycles.iter().enumerate() {
             self.reach(cycle_branch(worker, cycle), true);
         }
-        let length = job.plan().quantum_length();
-        let last = job.open_quantum().map(|q| q.ticks) == Some(length);
-        self.reach(FinishAlone, job.is_finished() && report.skipped == 0);
-        self.reach(FinishSkipping, report.skipped > 0);
-        self.reach(FinishAtLastTick, last);
+        if job.is_finished() {
+            self.cover_finish(job, report);
+        }
         if let Some(end) = report.quantum_end {
             self.cover_end(job, end);
         }
+    }
+
+    fn cover_finish(&mut self, job: &Job, report: &TickReport) {
+        let (granted, charged) = (job.allotment(), report.rested > 0);
+        let length = job.plan().quantum_length();
+        let last_tick = job.open_quantum().map(|q| q.ticks) == Some(length);
+        self.reach(FinishAlone, granted == 1);
+        self.reach(FinishLast, granted > 1 && !charged);
+        self.reach(FinishCharged, charged);
+        self.reach(FinishFirst, granted > 2 && report.cycles.len() == 1);
+        self.reach(FinishAtLastTick, last_tick);
+        self.reach(FinishAtLastTickCharged, last_tick && charged);
     }
 
     fn cover_end(&mut self, job: &Job, end: QuantumEnd) {

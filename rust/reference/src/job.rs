@@ -7,6 +7,7 @@ use crate::counters::DigitCount;
 use crate::plan::{read_plan, Plan};
 use crate::quantum::{classify, is_efficient, next_desire, QuantumEnd};
 use crate::refusal::{ask, Refusal};
+use crate::rest::Rest;
 use crate::theft::Theft;
 use crate::withdrawal::{Turn, Withdrawn};
 
@@ -26,6 +27,8 @@ pub struct Rules {
     pub theft: Theft,
     /// Which muggable deque is taken first.
     pub turn: Turn,
+    /// What the workers after the finisher count.
+    pub rest: Rest,
 }
 
 impl Default for Rules {
@@ -35,6 +38,7 @@ impl Default for Rules {
             digits: DigitCount::default(),
             theft: Theft::default(),
             turn: Turn::default(),
+            rest: Rest::default(),
         }
     }
 }
@@ -130,10 +134,12 @@ pub enum Cycle {
 /// What an accepted tick did.
 #[derive(Clone, Debug, PartialEq, Eq)]
 pub struct TickReport {
-    /// The cycles of workers 0 and up; ends with the finishing work cycle.
+    /// The cycles that workers 0 and up took. In the tick that finishes the job
+    /// the finisher's work cycle is the last.
     pub cycles: Vec<Cycle>,
-    /// Workers after the finishing one, which took no cycle.
-    pub skipped: usize,
+    /// Workers after the finisher. They take no cycle, and each counts a steal
+    /// cycle in vain.
+    pub rested: usize,
     /// Set if the quantum closed with this tick.
     pub quantum_end: Option<QuantumEnd>,
 }
@@ -325,7 +331,8 @@ impl Job {
 /// Tick.
 impl Job {
     /// Does one tick with one choice of a victim for each granted worker, or
-    /// refuses with 11, 15, 16 or 17 and changes nothing.
+    /// refuses with 11, 15, 16 or 17 and changes nothing. The choices of
+    /// workers after the finisher are not looked at beyond 17.
     pub fn tick(&mut self, choices: &[u8]) -> Result<TickReport, Refusal> {
         let mut quantum = self.ask_tick(choices)?;
         quantum.ticks += 1;
@@ -338,11 +345,15 @@ impl Job {
                 break;
             }
         }
+        let rested = choices.len() - cycles.len();
+        if self.is_finished() {
+            quantum.usage += self.count_rest(rested);
+        }
         self.quantum = Some(quantum);
         Ok(TickReport {
-            skipped: choices.len() - cycles.len(),
-            quantum_end: self.close_quantum(quantum),
             cycles,
+            rested,
+            quantum_end: self.close_quantum(quantum),
         })
     }
 
@@ -427,6 +438,16 @@ impl Job {
                 0
             }
         }
+    }
+
+    /// Counts the rest of the tick that finished the job, with so many workers
+    /// after the finisher. Returns its part of the usage.
+    fn count_rest(&mut self, after: usize) -> u64 {
+        let charge = self.rules.rest.charge(self.allotment(), after);
+        self.mug_cycles += charge.mugs;
+        self.steal_cycles += charge.steals;
+        self.successful_steals += charge.successes;
+        charge.mugs
     }
 
     /// Closes the quantum after its last tick. The quantum in which the job

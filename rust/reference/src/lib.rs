@@ -5,8 +5,8 @@
 //!
 //! Reading order, which is document 01's: [`plan`], [`job`] (grant and tick),
 //! [`withdrawal`] (which orphan is taken first), [`theft`] (what a steal
-//! takes), [`quantum`] (round's end), [`log`], [`label`], [`counters`],
-//! [`program`].
+//! takes), [`rest`] (what the workers after the finisher count), [`quantum`]
+//! (round's end), [`log`], [`label`], [`counters`], [`program`].
 //! [`generator`] makes random plans and logs from a seed and [`coverage`]
 //! counts what they reach. [`stored`] chooses a set of cases to be kept.
 //!
@@ -24,6 +24,7 @@ pub mod plan;
 pub mod program;
 pub mod quantum;
 pub mod refusal;
+pub mod rest;
 pub mod stored;
 pub mod theft;
 pub mod withdrawal;
@@ -36,5 +37,6 @@ pub use plan::{read_plan, Plan, Task};
 pub use program::{program_output, split_input};
 pub use quantum::{is_efficient, next_desire, QuantumEnd};
 pub use refusal::Refusal;
+pub use rest::{Charge, Rest};
 pub use theft::{Share, Theft};
 pub use withdrawal::{Turn, Withdrawn};

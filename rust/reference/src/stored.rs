@@ -19,7 +19,7 @@ pub const KEPT_SEED: u64 = 1;
 const SMALL: usize = 400;
 
 /// Generated cases are taken until the set has this size.
-const ENOUGH: usize = 306_000;
+const ENOUGH: usize = 308_700;
 
 const SHAPES: [Shape; 5] = [
     Shape::Chain,
@@ -40,6 +40,7 @@ pub fn stored_set(seed: u64) -> Vec<u8> {
         counted(),
         robbed(),
         orphaned(),
+        finished(),
         shaped(&mut random),
         wide(&mut random),
     ];
@@ -212,20 +213,16 @@ fn with_line(size: usize, workers: usize, calls: impl Fn(&mut Writer)) -> Vec<u8
     let mut draft = Draft::of_graph(&nested(MOST_FORKS.min(size + 3)));
     draft.utilization = 1;
     draft.quantum_length = 1;
-    let plan = draft.bytes();
-    let log = Job::accept(&plan).map(|job| {
-        let mut writer = Writer::new(job);
+    written(&draft, |writer| {
         while writer.job.desire() < workers {
             let own: Vec<u8> = (0..writer.job.desire() as u8).collect();
-            quantum(&mut writer, &own);
+            quantum(writer, &own);
         }
         while writer.job.deques()[0].len() + 1 < size {
-            quantum(&mut writer, &[0]);
+            quantum(writer, &[0]);
         }
-        calls(&mut writer);
-        writer.bytes
-    });
-    input(&plan, &log.unwrap_or_default())
+        calls(writer);
+    })
 }
 
 /// Forks inside each other's first part: a worker alone has one task more in
@@ -241,6 +238,38 @@ fn nested(forks: usize) -> Vec<Vec<u16>> {
     }
     graph[leaf - 1] = vec![task(leaf + 1)];
     graph
+}
+
+/// Jobs that each of one, two and three workers finishes, and the first and the
+/// last of 64; each in a quantum's first tick and in its last, the second.
+fn finished() -> Vec<Vec<u8>> {
+    let few = [(0, 1), (0, 2), (1, 2), (0, 3), (1, 3), (2, 3)];
+    let most = [(0, MOST_WORKERS), (MOST_WORKERS - 1, MOST_WORKERS)];
+    let both = |(worker, workers)| [6, 7].map(|chain| finished_by(worker, workers, chain));
+    few.into_iter().chain(most).flat_map(both).collect()
+}
+
+/// The desire climbs along a chain of so many tasks. Of the fork after it the
+/// finisher steals the second task, or as worker 0 it works both; so it has the
+/// join, the last task.
+fn finished_by(finisher: usize, workers: usize, chain: u16) -> Vec<u8> {
+    let mut graph: Vec<Vec<u16>> = (1..=chain).map(|next| vec![next]).collect();
+    let (first, second, join) = (chain + 1, chain + 2, chain + 3);
+    graph.extend([vec![first, second], vec![join], vec![join], vec![]]);
+    let choice = |worker: usize| if worker == finisher { 0 } else { worker as u8 };
+    let mut draft = Draft::of_graph(&graph);
+    draft.responsiveness = 4;
+    draft.utilization = 1;
+    draft.quantum_length = 2;
+    written(&draft, |writer| {
+        while !writer.job.is_finished() {
+            if writer.job.open_quantum().is_none() {
+                writer.grant(writer.job.desire().min(workers));
+            }
+            let workers = 0..writer.job.allotment();
+            writer.tick(&workers.map(choice).collect::<Vec<u8>>());
+        }
+    })
 }
 
 /// Every shape with every way to grant, and every shape with the fewest and
@@ -278,17 +307,12 @@ fn every_allotment(random: &mut Random) -> Vec<u8> {
     let mut draft = draft(random, Shape::Layered { width: 8 }, MOST_TASKS, 2);
     draft.utilization = 1;
     draft.quantum_length = 1;
-    let plan = draft.bytes();
     let counts = [1, 2, 4, 8, 16, 32].into_iter();
-    let log = Job::accept(&plan).map(|job| {
-        let mut writer = Writer::new(job);
+    written(&draft, |writer| {
         for count in counts.chain((0..=MOST_WORKERS).rev()) {
-            writer.grant(count);
-            writer.tick(&vec![0; count]);
+            quantum(writer, &vec![0; count]);
         }
-        writer.bytes
-    });
-    input(&plan, &log.unwrap_or_default())
+    })
 }
 
 /// An input of a shape whose log follows the job. The index picks what the
@@ -322,6 +346,17 @@ fn logged(random: &mut Random, draft: &Draft, grants: Grants, index: usize) -> V
     };
     let plan = draft.bytes();
     let log = Job::accept(&plan).map(|job| guided_log(random, job, &style));
+    input(&plan, &log.unwrap_or_default())
+}
+
+/// An input of calls that are written while the draft's job follows them.
+fn written(draft: &Draft, calls: impl FnOnce(&mut Writer)) -> Vec<u8> {
+    let plan = draft.bytes();
+    let log = Job::accept(&plan).map(|job| {
+        let mut writer = Writer::new(job);
+        calls(&mut writer);
+        writer.bytes
+    });
     input(&plan, &log.unwrap_or_default())
 }
 

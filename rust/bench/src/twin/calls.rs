@@ -129,24 +129,20 @@ impl Numbers {
         0
     }
 
-    /// The workers' cycles. The counts of mug and steal cycles follow at the end from the muggable deques that are left.
+    /// The workers' cycles. The counts of mug and steal cycles follow at the end from the muggable deques that are left. Once the last task
+    /// is worked all deques are empty, so that the workers after the finisher steal in vain, as request U6 asks.
     ///
     /// # Safety
     /// There are at most 64 choices, each below the number of workers.
     #[inline(always)]
     unsafe fn cycles(&mut self, tables: &mut Tables, choices: &[u8]) {
-        let unworked = u64::from(self.tasks - self.done);
         let (waiting, mut left) = (self.waiting, self.waiting);
-        let (mut works, mut successes, mut cycles) = (0, 0, choices.len());
+        let (mut works, mut successes) = (0, 0);
         for (worker, &choice) in choices.iter().enumerate() {
             let size = *tables.ends.get_unchecked(SIZES + worker);
             if size != 0 {
                 tables.work(worker, size);
                 works += 1;
-                if works == unworked {
-                    cycles = worker + 1;
-                    break;
-                }
             } else if left != 0 {
                 tables.mug(worker, (self.head + waiting - left) % WORKERS);
                 left -= 1;
@@ -165,7 +161,7 @@ impl Numbers {
         self.done += works as u16;
         self.works += works;
         self.mugs += mugs as u64;
-        self.steals += cycles as u64 - works - mugs as u64;
+        self.steals += choices.len() as u64 - works - mugs as u64;
         self.successes += successes;
         self.usage += works + mugs as u64;
     }

@@ -24,7 +24,7 @@ fn run(input: &[u8]) -> String {
 #[test]
 fn prints_the_counters_line() {
     let log = hex("01 81 00 81 00 02 82 00 00 82 00 00");
-    assert_eq!(run(&input(&hex(PLAN_A), &log)), "3 4 4 2 2 4 0 1 0 0\n");
+    assert_eq!(run(&input(&hex(PLAN_A), &log)), "3 4 4 2 2 4 0 2 0 0\n");
 }
 
 #[test]

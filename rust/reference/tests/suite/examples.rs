@@ -35,7 +35,7 @@ fn shipped_examples() {
 #[test]
 fn example_1_two_workers() {
     let log = "01 81 00 81 00 02 82 00 00 82 00 00";
-    assert_eq!(printed(PLAN_A, log), "3 4 4 2 2 4 0 1 0 0\n");
+    assert_eq!(printed(PLAN_A, log), "3 4 4 2 2 4 0 2 0 0\n");
     assert_eq!(input(&hex(PLAN_A), &[])[..2], [0x00, 0x11]);
 }
 
@@ -102,6 +102,7 @@ fn example_9_one_task() {
     let mut job = job(&hex("15 40 00 08 00 00 00 00"));
     assert!(job.grant(1).is_ok() && job.tick(&[0]).is_ok());
     assert_eq!(job.status(), Status::Finished);
+    assert_eq!((job.work_cycles(), job.steal_cycles()), (1, 0));
 }
 
 #[test]

@@ -169,6 +169,47 @@ fn three_thieves_in_one_tick() {
     assert_eq!((job.steal_cycles(), job.successful_steals()), (4, 3));
 }
 
+/// A job before the tick that finishes it, with three workers granted. Of a
+/// fork after a chain the finisher has stolen the second task, or as worker 0
+/// has worked both; the join is all that is left.
+fn before_the_finish(finisher: usize) -> Job {
+    let mut job = drawn(&[&[1], &[2], &[3, 4], &[5], &[5], &[]], 1);
+    quantum(&mut job, &[0]);
+    quantum(&mut job, &[0, 1]);
+    let mut choices = [0, 1, 2];
+    choices[finisher] = 0;
+    while job.worked_count() < 5 {
+        quantum(&mut job, &choices);
+    }
+    assert!(job.grant(3).is_ok());
+    job
+}
+
+#[test]
+fn workers_after_the_finisher_steal_in_vain() {
+    for finisher in [0, 1, 2] {
+        let before = before_the_finish(finisher);
+        assert_eq!(before.deques()[finisher], [5]);
+        let mut job = before.clone();
+        let report = job.tick(&[0, 0, 0]).expect("an accepted tick");
+        assert_eq!(report.cycles.len(), finisher + 1);
+        assert_eq!(report.rested, 2 - finisher);
+        // One works and the other two steal in vain, whoever is the finisher.
+        assert_eq!((job.work_cycles(), job.mug_cycles()), (6, 0));
+        assert_eq!(job.steal_cycles(), before.steal_cycles() + 2);
+        assert_eq!(job.successful_steals(), before.successful_steals());
+        assert_eq!(job.deques(), [vec![], vec![], vec![]]);
+        // The quantum has had its one tick, and does not close.
+        let open = OpenQuantum { ticks: 1, usage: 1 };
+        assert_eq!(job.open_quantum(), Some(open));
+        assert_eq!(job.desire(), before.desire());
+        // No choice matters.
+        let mut other = before;
+        assert!(other.tick(&[2, 1, 0]).is_ok());
+        assert_eq!(other, job);
+    }
+}
+
 #[test]
 fn only_workers_from_the_grant_up_are_withdrawn() {
     let mut job = tree();

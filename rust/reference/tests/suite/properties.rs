@@ -1,8 +1,9 @@
 //! What must hold after every call of a few thousand random cases. The
 //! checks keep their own account of the tasks, from the plan and the reports.
 
-use reference::generator::cases;
-use reference::{program_output, Cycle, Entries, Entry, Job, Plan, Refusal, Report, Status};
+use reference::generator::{cases, Case};
+use reference::{program_output, rest, run_log_with, Cycle, Entries, Entry, Job, Plan, Refusal};
+use reference::{Report, Rest, Rules, Status, TickReport};
 
 /// What the checks remember of a job's calls.
 struct Witness {
@@ -21,6 +22,49 @@ fn random_cases() {
         assert!(program_output(&case.input).ends_with('\n'));
     }
     assert!(accepted > 2_000, "only {accepted} plans were accepted");
+}
+
+/// Whether after each call of a log the work, mug and steal cycles add up to
+/// the granted workers of all accepted ticks. That sum is read from the calls,
+/// and from whether they were accepted.
+fn counts_whole_ticks(mut job: Job, log: &[u8]) -> bool {
+    let (mut granted, mut sum, mut same) = (0, 0, true);
+    run_log_with(&mut job, log, |job, entry, answer| {
+        match *entry {
+            _ if answer.is_err() => (),
+            Entry::Grant(count) => granted = count as u64,
+            Entry::Tick(_) => sum += granted,
+        }
+        same &= job.work_cycles() + job.mug_cycles() + job.steal_cycles() == sum;
+    });
+    same
+}
+
+/// How many random cases do not, where the job follows that rule.
+fn not_whole(rest: Rest, count: usize) -> usize {
+    let rules = Rules {
+        rest,
+        ..Rules::default()
+    };
+    let other = |case: &Case| {
+        let job = Job::accept(&case.plan).ok();
+        job.map_or(false, |job| {
+            !counts_whole_ticks(job.with_rules(rules), &case.log)
+        })
+    };
+    cases(5).take(count).filter(other).count()
+}
+
+/// Request U6's sum. A success or a mug cycle in the place of a steal cycle in
+/// vain leaves it as it is.
+#[test]
+fn cycles_are_the_granted_workers_of_the_ticks() {
+    assert_eq!(not_whole(Rest::default(), 3_000), 0);
+    for rest in rest::BENT {
+        let found = not_whole(rest, 300);
+        let other_kind = matches!(rest, Rest::EachSucceeds | Rest::EachMugs);
+        assert_eq!(found == 0, other_kind, "{found} with {rest:?}");
+    }
 }
 
 /// Follows a log and checks the job after each call.
@@ -63,7 +107,7 @@ impl Witness {
             (_, Ok(Report::Tick(report))) => {
                 self.check_order(job.plan(), &report.cycles);
                 check_progress(before, job);
-                check_cycles(before, job, &report.cycles);
+                check_cycles(before, job, report);
                 check_thefts(&report.cycles);
             }
             _ => panic!("a tick with a grant's report"),
@@ -97,8 +141,10 @@ fn check_progress(before: &Job, job: &Job) {
     assert_eq!(job.allotment(), before.allotment());
 }
 
-/// The counts move by the cycles of their own kind, one a worker.
-fn check_cycles(before: &Job, job: &Job, cycles: &[Cycle]) {
+/// The counts move by the cycles of their own kind, one a worker; for a worker
+/// after the finisher it is a steal cycle in vain.
+fn check_cycles(before: &Job, job: &Job, report: &TickReport) {
+    let TickReport { cycles, rested, .. } = report;
     let count = |wanted: fn(&Cycle) -> bool| cycles.iter().filter(|c| wanted(c)).count() as u64;
     let work = count(|c| matches!(c, Cycle::Work { .. }));
     let mug = count(|c| matches!(c, Cycle::Mug { .. }));
@@ -106,9 +152,11 @@ fn check_cycles(before: &Job, job: &Job, cycles: &[Cycle]) {
     let stolen = count(|c| matches!(c, Cycle::Steal { stolen, .. } if *stolen > 0));
     assert_eq!(job.work_cycles() - before.work_cycles(), work);
     assert_eq!(job.mug_cycles() - before.mug_cycles(), mug);
-    assert_eq!(job.steal_cycles() - before.steal_cycles(), steal);
+    let all_steals = steal + *rested as u64;
+    assert_eq!(job.steal_cycles() - before.steal_cycles(), all_steals);
     assert_eq!(job.successful_steals() - before.successful_steals(), stolen);
-    assert!(cycles.len() == job.allotment() || job.is_finished());
+    assert_eq!(cycles.len() + rested, job.allotment());
+    assert!(*rested == 0 || job.is_finished());
     if let (Some(old), Some(new)) = (before.open_quantum(), job.open_quantum()) {
         assert_eq!(new.ticks, old.ticks + 1);
         assert_eq!(new.usage, old.usage + work + mug);

@@ -4,7 +4,7 @@ use reference::coverage::{Coverage, BRANCHES};
 use reference::stored::{stored_cases, stored_set, KEPT_SEED};
 use reference::MOST_QUANTA;
 use reference::{counters_text, program_output, read_plan, run_log, run_log_with, split_input};
-use reference::{theft, withdrawal, Cycle, Entries, Job, Refusal, Report, Rules, Status};
+use reference::{rest, theft, withdrawal, Cycle, Entries, Job, Refusal, Report, Rules, Status};
 
 /// The kept set, which the crate `vectors` runs, and what it must write.
 const KEPT: &[u8] = include_bytes!("../../../../crates/vectors/stdin");
@@ -197,6 +197,26 @@ fn kept_set_has_grants_of_two_lines_behind_two_and_of_64() {
     }
 }
 
+/// Which worker finishes a case's job, and of how many; nothing where none does.
+fn finisher(input: &[u8], output: &[u8]) -> Option<(usize, usize)> {
+    // A finished job accepts no call, so that the last accepted one finished it.
+    let last = reports(input).pop().filter(|_| output.starts_with(b"3 "));
+    match last? {
+        (workers, Report::Tick(report)) => Some((report.cycles.len() - 1, workers)),
+        _ => None,
+    }
+}
+
+#[test]
+fn kept_set_has_jobs_that_any_of_few_finishes_and_the_first_of_64() {
+    let cases = kept().into_iter();
+    let finishers: Vec<_> = cases.filter_map(|(i, o)| finisher(i, o)).collect();
+    let few = (1..=3).flat_map(|workers| (0..workers).map(move |worker| (worker, workers)));
+    for one in few.chain([(0, 64), (63, 64)]) {
+        assert!(finishers.contains(&one), "no finisher {one:?}");
+    }
+}
+
 /// How many of the cases have another line where a job follows those rules.
 fn told_apart(rules: Rules) -> usize {
     let bent = |(plan, log)| {
@@ -213,12 +233,13 @@ fn told_apart(rules: Rules) -> usize {
 }
 
 #[test]
-fn kept_set_tells_thefts_and_turns_apart() {
+fn kept_set_tells_the_requests_rules_apart() {
     let right = Rules::default();
     assert_eq!(told_apart(right), 0);
     let thefts = theft::BENT.map(|theft| Rules { theft, ..right });
     let turns = withdrawal::BENT.map(|turn| Rules { turn, ..right });
-    for rules in thefts.into_iter().chain(turns) {
+    let rests = rest::BENT.map(|rest| Rules { rest, ..right });
+    for rules in thefts.into_iter().chain(turns).chain(rests) {
         let found = told_apart(rules);
         assert!(found >= 10, "{found} with {rules:?}");
     }
