@@ -201,7 +201,7 @@ static void test_calls(void)
     refuses_tick(job, high, 1, JIRVALDO_TICK_BAD_CHOICE);
     CHECK(tick_bytes(job, zeros, 1) == 0 && tick_bytes(job, zeros, 1) == 0);
     CHECK(jirvaldo_grant(job, 2) == 0 && tick_bytes(job, zeros, 2) == 0 && tick_bytes(job, zeros, 2) == 0);
-    CHECK(line_is(job, 0, "3 4 4 2 2 4 0 1 0 0"));
+    CHECK(line_is(job, 0, "3 4 4 2 2 4 0 2 0 0"));
     refuses_grant(job, 0, JIRVALDO_JOB_FINISHED);
     refuses_grant(job, UINT64_MAX, JIRVALDO_JOB_FINISHED);
     refuses_tick(job, zeros, 2, JIRVALDO_JOB_FINISHED);
@@ -256,6 +256,23 @@ static void test_withdrawals(void)
     CHECK(line_after(&plan, earlier, sizeof earlier - 1, "1 7 13 8 1 7 2 4 3 0"));
 }
 
+/* seven tasks with R = 3: of three workers the first, the second or the last finishes the job, and those after it steal in vain */
+static void test_last_tick(void)
+{
+    static const unsigned next[7][2] = {{1, 2}, {3, 4}, {5, 0}, {5, 0}, {6, 0}, {6, 0}, {0, 0}};
+    static const char first[] =
+        "\x01\x81\0\x03\x83\0\x01\x02\x03\x83\0\x01\x02\x03\x83\0\x01\x02\x03\x83\0\x01\x02\x03\x83\0\x01\x02\x03\x83\0\x01\x02";
+    static const char second[] = "\x01\x81\0\x03\x83\0\0\0\x03\x83\0\0\0\x03\x83\0\0\0\x03\x83\0\0\0";
+    static const char last[] = "\x01\x81\0\x03\x83\0\x01\0\x03\x83\0\x01\0\x03\x83\0\x01\0\x03\x83\0\x01\0";
+    plan_bytes plan;
+    unsigned t;
+    put_header(&plan, 1, 3, 1, 1, 7);
+    for (t = 0; t < 6; t++) put_task(&plan, t, next[t][1] == 0 ? 1 : 2, next[t][0], next[t][1]);
+    CHECK(line_after(&plan, first, sizeof first - 1, "3 7 7 9 3 7 0 12 0 0"));
+    CHECK(line_after(&plan, second, sizeof second - 1, "3 7 7 9 3 7 0 6 2 0"));
+    CHECK(line_after(&plan, last, sizeof last - 1, "3 7 7 9 3 7 0 6 1 0"));
+}
+
 /* all quanta that may begin, of 0 workers and one tick each; then as a log */
 static void test_spent_quanta(void)
 {
@@ -308,12 +325,12 @@ static void check_log(const char *log, size_t size, unsigned expected, uint64_t 
 static void test_logs(void)
 {
     check_log("", 0, 0, 0, "0 0 4 1 0 0 0 0 0 0");
-    check_log("\x01\x81\0\x81\0\x02\x82\0\0\x82\0\0", 12, 0, 0, "3 4 4 2 2 4 0 1 0 0");
+    check_log("\x01\x81\0\x81\0\x02\x82\0\0\x82\0\0", 12, 0, 0, "3 4 4 2 2 4 0 2 0 0");
     check_log("\x01\x81\0\x81\0\0\x80\x80\x01\x81\0\x81\0\x01\x81\0", 16, 0, 0, "3 4 4 2 1 4 1 0 0 0");
     check_log("\x02\0", 2, 0, 1, "0 0 4 1 0 0 0 0 0 1");
     check_log("\x81", 1, JIRVALDO_LOG_BROKEN, 0, "0 0 4 1 0 0 0 0 0 0");
     check_log("\x7F\x01\x82\0", 4, JIRVALDO_LOG_BROKEN, 1, "1 0 4 1 1 0 0 0 0 1");
-    check_log("\x01\x81\0\x81\0\x02\x82\0\0\x82\0\0\x01\x81\0\x81", 16, JIRVALDO_LOG_BROKEN, 2, "3 4 4 2 2 4 0 1 0 2");
+    check_log("\x01\x81\0\x81\0\x02\x82\0\0\x82\0\0\x01\x81\0\x81", 16, JIRVALDO_LOG_BROKEN, 2, "3 4 4 2 2 4 0 2 0 2");
 }
 
 /* the wording of a job in this sheet: where it starts and its size, or 19 */
@@ -527,11 +544,19 @@ static size_t random_log(uint8_t *log, const plan_bytes *plan, uint64_t *seed)
     return most;
 }
 
-/* the log's entries as calls: 0 or 18, and how many calls were refused; a refused one leaves the job as it was */
+static uint64_t all_cycles(const jirvaldo_job *job)
+{
+    jirvaldo_numbers n = jirvaldo_counters(job, 0);
+    return n.work + n.mug + n.steal;
+}
+
+/* the log's entries as calls: 0 or 18, and how many calls were refused; a refused one leaves the job as it was, and each accepted tick counts
+ * as many cycles as the last accepted grant gave workers */
 static unsigned call_by_call(jirvaldo_job *job, const uint8_t *log, size_t size, uint64_t *refused_calls)
 {
     size_t at = 0, choices;
     unsigned answer;
+    uint64_t granted = jirvaldo_counters(job, 0).allotment, counted = all_cycles(job);
     jirvaldo_job *before = job_block();
     *refused_calls = 0;
     while (at < size) {
@@ -541,6 +566,9 @@ static unsigned call_by_call(jirvaldo_job *job, const uint8_t *log, size_t size,
         answer = log[at] < 128 ? jirvaldo_grant(job, log[at]) : tick_bytes(job, log + at + 1, choices);
         *refused_calls += answer != 0;
         CHECK(answer == 0 || memcmp(job, before, sizeof *job) == 0);
+        if (answer == 0 && log[at] < 128) granted = log[at];
+        if (answer == 0 && log[at] >= 128) counted += granted;
+        CHECK(all_cycles(job) == counted);
         at += 1 + choices;
     }
     release_job(before);
@@ -684,6 +712,7 @@ int main(int count, char **arguments)
     test_calls();
     test_thefts();
     test_withdrawals();
+    test_last_tick();
     test_spent_quanta();
     test_logs();
     test_wordings();

@@ -81,7 +81,8 @@ typedef struct jirvaldo_part {
     size_t size;
 } jirvaldo_part;
 
-/* The ten numbers of the counters line, in its order. */
+/* The ten numbers of the counters line, in its order. Work, mug and steal cycles add up to the numbers of workers granted at all accepted
+ * ticks: each granted worker counts one cycle in a tick, in the last one too. */
 typedef struct jirvaldo_numbers {
     uint64_t status;        /* of enum jirvaldo_job_status */
     uint64_t worked;        /* tasks that are worked */
@@ -90,7 +91,7 @@ typedef struct jirvaldo_numbers {
     uint64_t allotment;     /* workers that the last accepted grant gave */
     uint64_t work;          /* cycles in which a worker worked a task */
     uint64_t mug;           /* cycles in which a worker picked up the deque of a withdrawn one */
-    uint64_t steal;         /* cycles in which a worker tried to take tasks from another's deque */
+    uint64_t steal;         /* cycles in which a worker tried to take tasks from another's deque, or came after the job's last task */
     uint64_t successes;     /* how many of these took some */
     uint64_t refused_calls; /* as handed over */
 } jirvaldo_numbers;
@@ -122,11 +123,11 @@ static inline unsigned jirvaldo_grant(jirvaldo_job *job, uint64_t workers)
     return jirvaldo_core_grant(job->memory_, job->words_, workers);
 }
 
-/* One tick, with the number of a worker to steal from for each granted worker. 0: each worker took its cycle, in number order, up to the
- * cycle that finished the job; the L-th tick of an unfinished job closes the quantum. A worker that steals gets the back half of the chosen
- * deque, rounded down and in its order, if that has two or more tasks, and else nothing. 11: the job is finished. 15: no quantum is open.
- * 16: there is not exactly one choice for each granted worker. 17: a choice is not below the granted number. Refused, the job is byte for
- * byte as it was. */
+/* One tick, with the number of a worker to steal from for each granted worker. 0: each worker took its cycle, in number order; the L-th tick
+ * of an unfinished job closes the quantum. A worker that steals gets the back half of the chosen deque, rounded down and in its order, if
+ * that has two or more tasks, and else nothing. A worker after the one that finished the job counts a steal, which gets nothing. 11: the job
+ * is finished. 15: no quantum is open. 16: there is not exactly one choice for each granted worker. 17: a choice is not below the granted
+ * number. Refused, the job is byte for byte as it was. */
 static inline unsigned jirvaldo_tick(jirvaldo_job *job, const uint8_t *choices, size_t size)
 {
     const uint8_t none = 0;

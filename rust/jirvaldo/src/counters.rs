@@ -8,7 +8,8 @@ use std::str;
 
 use crate::{Status, LINE_BUFFER};
 
-/// The ten numbers of the counters line, in its order.
+/// The ten numbers of the counters line, in its order. Work, mug and steal cycles add up to the numbers of workers granted at all accepted
+/// ticks.
 #[derive(Clone, Copy, Debug, PartialEq, Eq)]
 pub struct Counters {
     /// The job's status.
@@ -25,7 +26,7 @@ pub struct Counters {
     pub work: u64,
     /// Mug cycles: a worker took over the deque of a withdrawn worker.
     pub mug: u64,
-    /// Steal cycles: a worker tried to take tasks from another's deque.
+    /// Steal cycles: a worker tried to take tasks from another's deque, or came after the job's last task.
     pub steal: u64,
     /// Steal cycles that took tasks.
     pub successes: u64,

@@ -109,7 +109,8 @@ impl Job {
     /// else to do; a choice is needed of every worker, read or not. After its L-th tick a quantum closes, and the desire moves.
     ///
     /// A worker that steals gets the back half of the chosen deque, rounded down and in its order, if that has two or more tasks, and else
-    /// nothing. It is one success, however many tasks it takes.
+    /// nothing. It is one success, however many tasks it takes. A worker after the one that finished the job counts a steal, which gets
+    /// nothing; so each granted worker counts one cycle, in the last tick too.
     ///
     /// # Errors
     /// In this order: [`Finished`](Refusal::Finished) (11), [`NoQuantumOpen`](Refusal::NoQuantumOpen) (15),

@@ -1,4 +1,4 @@
-//! Document 01's examples 1 to 4, 7 and 9, and request U1's thieves.
+//! Document 01's examples 1 to 4, 7 and 9, and the thieves, orphans and last ticks of the requests.
 
 use jirvaldo::inspect::State;
 use jirvaldo::{Job, Refusal, Status};
@@ -16,7 +16,7 @@ fn after(log: &str) -> Job {
 #[test]
 fn example_1_two_workers() {
     let job = after("01 81 00 81 00 02 82 00 00 82 00 00");
-    assert_eq!(&*job.line(0), "3 4 4 2 2 4 0 1 0 0");
+    assert_eq!(&*job.line(0), "3 4 4 2 2 4 0 2 0 0");
 }
 
 #[test]
@@ -107,6 +107,31 @@ fn an_earlier_grants_deques_are_mugged_first() {
     let run = job.run_log(&hex("80 03 83 00 00 00"));
     assert_eq!(run.refused_calls, 0);
     assert_eq!(State::of(&job).deques, [vec![2], vec![6], vec![8]]);
+}
+
+/// The job of `examples/whole-last-tick.in` after one tick of a worker alone, and so many of three workers with these choices. What three
+/// counts add up to is one for each granted worker.
+fn three_at_work(ticks: u64, choices: [u8; 3]) -> Job {
+    let input = include_bytes!("../../../../examples/whole-last-tick.in");
+    let mut job = job(&input[2..2 + usize::from(input[1])]);
+    assert_eq!(job.run_log(&hex("01 81 00")).refused_calls, 0);
+    for _ in 0..ticks {
+        assert_eq!(job.grant(3), Ok(()));
+        assert_eq!(job.tick(&choices), Ok(()));
+    }
+    let shown = job.counters(0);
+    assert_eq!(shown.work + shown.mug + shown.steal, 1 + 3 * ticks);
+    job
+}
+
+#[test]
+fn the_workers_after_the_finisher_steal_in_vain() {
+    assert_eq!(
+        &*three_at_work(6, [0, 1, 2]).line(0),
+        "3 7 7 9 3 7 0 12 0 0"
+    );
+    assert_eq!(&*three_at_work(4, [0, 0, 0]).line(0), "3 7 7 9 3 7 0 6 2 0");
+    assert_eq!(&*three_at_work(4, [0, 1, 0]).line(0), "3 7 7 9 3 7 0 6 1 0");
 }
 
 #[test]
