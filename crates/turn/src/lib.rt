@@ -1,4 +1,5 @@
 // A worker's cycle and the cycles of a tick, in place in a job's memory and words. A work cycle is `work`'s; here are mug and steal cycles.
+use cycle_counts::MugCycles;
 use memory::Memory;
 use memory::Words;
 use tally::Tally;
@@ -16,7 +17,7 @@ pub fn idle_cycle(
     requires { ⌜ IdleTurn (now memory) (now words) w choice t ⌝ }
     ensures { λ r. ⌜ Idled (now (memory .entry)) (now (words .entry)) w choice t (now (memory .exit)) (now (words .exit)) r ⌝ }
 {
-    let mugs = t.mugs;
+    let mugs: MugCycles = t.mugs;
     let mugged = mugs.number();
     if mugged < words[memory::WAITING] {
         let oldest = 64 + (words[memory::HEAD] + mugged) % 64;
