@@ -24,7 +24,7 @@ pub bounded-more : {most more : ℕ} {e : Execution} → most ≤ more → Bound
 bounded-more {most} {more} {e} h b = record { workers = omega arith; lines = omega arith }
 
 -- a steal in vain moves nothing
-pub vain-bounded : {most : ℕ} {e : Execution} → Bounded most e → Bounded most (failed-steal e)
+vain-bounded : {most : ℕ} {e : Execution} → Bounded most e → Bounded most (failed-steal e)
 unfolding failed-steal
 vain-bounded b = record { workers = b .workers; lines = b .lines }
 

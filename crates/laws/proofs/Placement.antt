@@ -1,5 +1,6 @@
 -- Where the tasks stand: a task stands in a deque or a muggable deque exactly when it is ready and not worked, and then once. What a caller
--- can read from that (`stands`, `absent-..`, `released-stand-nowhere`, ..), and that a worker's cycle and a whole tick's cycles keep it.
+-- can read from that (`stands`, `absent-..`, `released-stand-nowhere`, ..), and that a worker's cycle and a whole tick's cycles keep it. Of
+-- a finished job none stands anywhere, so that a worker's turn is its own cycle at all times (`turn-is-cycle`).
 -- Assumes nothing.
 use mathlib.Core.Path.{_≡_, refl, sym, ap, _∙_}
 use mathlib.Core.Bool.{Bool, true, false, cond, not, _&&_}
@@ -279,7 +280,7 @@ cycles-placed {graph} {e} sound placed w choices h =
     cycles-keep graph (Placed graph) (λ v c before l q. cycle-placed sound q v c l) (λ before q. vain-placed q) choices w e h placed
 
 -- work counts the tasks that are worked
-pub vain-tallied : {e : Execution} → Tallied e → Tallied (failed-steal e)
+vain-tallied : {e : Execution} → Tallied e → Tallied (failed-steal e)
 unfolding failed-steal
 vain-tallied tallied = record { work-is-tasks = tallied .work-is-tasks }
 

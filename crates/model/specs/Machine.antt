@@ -278,6 +278,7 @@ cycle graph w choice e = performed graph w (cycle-of w choice e) e
 unfoldable pub turn-of : ℕ → ℕ → Execution → Cycle
 turn-of w choice e = cond (finished e) steals-nothing (cycle-of w choice e)
 
+-- one turn of worker w
 unfoldable pub turn : Graph → ℕ → ℕ → Execution → Execution
 turn graph w choice e = performed graph w (turn-of w choice e) e
 
