@@ -4,7 +4,7 @@
 use mathlib.Core.Path.{_≡_, refl, sym, _∙_}
 use mathlib.Core.Bool.{true, false, not, and-false}
 use mathlib.Core.List.{List}
-use Prim.Native.Nat.{ℕ, suc, _+_}
+use Prim.Native.Nat.{ℕ, suc, _+_, _≤_}
 use native.Mathlib.Numerals.{add-one}
 use native.Mathlib.Omega.{arith}
 use lib.ListN.{length, set}
@@ -17,7 +17,7 @@ use Rattle.memory.specs.Parts.{parts}
 use Rattle.memory.specs.Words.{word, word-count, numbers-in, open-in}
 use Rattle.memory.specs.View.{view, worked-view}
 use Rattle.memory.specs.Jobs.{lent, job-plan, job-state}
-use Rattle.memory.proofs.Views.{workers-shown, finished-shown}
+use Rattle.memory.proofs.Views.{workers-shown, done-at-most, finished-shown}
 use Rattle.memory.proofs.Words.{row-of, by-words}
 use Rattle.clock.specs.Clock.{tick-counted, quantum-ended, TickEnded}
 
@@ -48,14 +48,16 @@ stays-open =
     })
 
 module _ (words : List ℕ) (sized : length words ≡ word-count) (is-open : open-in words ≡ true) where
-  -- the job is finished: the quantum never closes
-  pub finished-ended : word (counted-words words) 2 ≡ word (counted-words words) 0 → TickEnded words (counted-words words)
+  -- all tasks are worked: the quantum never closes
+  pub finished-ended : word (counted-words words) 0 ≤ word (counted-words words) 2 → TickEnded words (counted-words words)
   unfolding closes job-plan
   finished-ended all-done =
-      let same : word words 2 ≡ word words 0 =
-      sym (counted-other words 2 (λ e. omega arith)) ∙ all-done ∙ counted-other words 0 (λ e. omega arith) in
+      let done : word (counted-words words) 2 ≡ word words 2 = counted-other words 2 (λ e. omega arith) in
+      let of-tasks : word (counted-words words) 0 ≡ word words 0 = counted-other words 0 (λ e. omega arith) in
       stays-open words sized is-open
-      (λ memory right. rw (finished-shown (parts memory) (numbers-in words) right, eq-eqb (word words 2) (word words 0) same) refl)
+      (λ memory right.
+      let same : word words 2 ≡ word words 0 = omega (arith, done-at-most (parts memory) (numbers-in words) right) in
+      rw (finished-shown (parts memory) (numbers-in words) right, eq-eqb (word words 2) (word words 0) same) refl)
 
   -- more ticks are due
   pub unclosed-ended : (word (counted-words words) 16 ≡ word (counted-words words) 12 → ⊥) → TickEnded words (counted-words words)

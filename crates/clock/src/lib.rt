@@ -22,11 +22,11 @@ pub fn end_tick(words: &mut Words)
     ensures { λ _. ⌜ TickEnded (now (words .entry)) (now (words .exit)) ⌝ }
 {
     words[memory::TICKS] = words[memory::TICKS] + 1;
-    let tasks = words[memory::TASKS];
-    if words[memory::DONE] == tasks {
+    if words[memory::TICKS] != words[memory::QUANTUM_LENGTH] {
         return;
     }
-    if words[memory::TICKS] != words[memory::QUANTUM_LENGTH] {
+    let tasks = words[memory::TASKS];
+    if words[memory::DONE] == tasks {
         return;
     }
     let desire = quantum::next_desire(

@@ -9,16 +9,14 @@ use Rattle.model.specs.Machine.{State, Call}
 use Rattle.model.specs.History.{run}
 use Rattle.model.specs.Statements.{SoundPlan}
 use Rattle.laws.specs.Reached.{Arranged, Measured, CountsFit}
-use Rattle.lists.proofs.Lists.{count-set-at-most}
 use Rattle.laws.proofs.Theorems.{arranged, measured, counts-fit, desire-is-power}
 use Rattle.plan.specs.Rules.{WithinBounds}
 use Rattle.plan.proofs.Sound.{accepted-sound, within-bounds}
 use Rattle.quantum.specs.Closing.{Power}
 use Rattle.memory.specs.declared.Job.{Job}
 use Rattle.memory.specs.Words.{terms-in, desire-in}
-use Rattle.memory.specs.View.{worked-view}
 use Rattle.memory.specs.Jobs.{job-parts, job-numbers, job-plan, job-state}
-use Rattle.memory.proofs.Views.{tasks-shown, flags-shown, workers-shown}
+use Rattle.memory.proofs.Views.{tasks-shown, done-at-most, workers-shown}
 use Rattle.engine.specs.Reached.{AcceptedPlan, Reached, IsJob, InRange}
 
 module _ {plan : Plan} (a : AcceptedPlan plan) where
@@ -69,14 +67,7 @@ module _ {plan : Plan} {calls : List Call} {job : Job} (r : Reached plan calls j
       rw (← tasks-shown (job-parts job .first) (job-parts job .second) (job-numbers job .tasks)) (known-bounds .tasks-most) in
       record {
         tasks-fit = few;
-        done-fits =
-            omega (
-              arith,
-              few,
-              r .kept .done-right,
-              count-set-at-most (worked-view (job-parts job .pending) (job-numbers job .tasks)),
-              flags-shown (job-parts job .pending) (job-numbers job .tasks),
-            );
+        done-fits = omega (arith, few, done-at-most (job-parts job) (job-numbers job) (r .kept .done-right));
         workers-fit =
             rw (← workers-shown (job-parts job .next) (job-parts job .ends) (job-numbers job .workers))
             (known-measured .deques-at-most .workers);

@@ -138,6 +138,11 @@ all-counted [] = refl
 all-counted (true ∷ flags) = all-counted flags ∙ sym (eqb·suc-suc (count-set flags) (length flags))
 all-counted (false ∷ flags) = sym (ne-eqb (count-set flags) (suc (length flags)) (λ e. omega (arith, count-set-at-most flags)))
 
+-- no more tasks are worked than there are
+pub done-at-most : (p : Parts) (m : Numbers) → m .done ≡ count-set (worked-view (p .pending) (m .tasks)) → m .done ≤ m .tasks
+done-at-most p m done-right =
+    omega (arith, done-right, count-set-at-most (worked-view (p .pending) (m .tasks)), flags-shown (p .pending) (m .tasks))
+
 -- "finished": the number of worked tasks is that of all tasks
 pub finished-shown : (p : Parts) (m : Numbers) → m .done ≡ count-set (worked-view (p .pending) (m .tasks)) →
     finished (view p m) ≡ eqb (m .done) (m .tasks)

@@ -14,16 +14,15 @@ use Rattle.model.specs.Tests.{every}
 use Rattle.model.specs.Plan.{Graph}
 use Rattle.model.specs.Machine.{Execution, cycle, cycles}
 use Rattle.lists.proofs.Tests.{and-left, and-right}
-use Rattle.lists.proofs.Lists.{count-set-at-most}
 use Rattle.laws.specs.Invariants.{Placed}
 use Rattle.laws.proofs.Placement.{turn-is-cycle}
 use Rattle.memory.specs.Parts.{Parts, parts, SameGraph}
-use Rattle.memory.specs.Words.{Numbers, word, numbers-in, SameTail}
+use Rattle.memory.specs.Words.{Numbers, numbers-in, SameTail}
 use Rattle.memory.specs.Graphs.{graph}
-use Rattle.memory.specs.View.{size-at, worked-view, view}
+use Rattle.memory.specs.View.{size-at, view}
 use Rattle.memory.specs.Sound.{Sound}
 use Rattle.memory.specs.Cycles.{Room, Grown}
-use Rattle.memory.proofs.Views.{workers-shown, flags-shown}
+use Rattle.memory.proofs.Views.{workers-shown, done-at-most}
 use Rattle.memory.proofs.Words.{tail-then}
 use Rattle.tally.specs.declared.Tally.{Tally}
 use Rattle.tally.specs.Tallies.{no-tally, add-work, numbers-at, Addable, Settled}
@@ -52,10 +51,6 @@ module _ (its-graph : Graph) (choices : List ℕ) (i : ℕ) (e : Execution) wher
   unfolding cycles
   one-more l placed =
       rw (drop-cons choices i 0 l) (ap (cycles its-graph (suc i) (drop (suc i) choices)) (turn-is-cycle placed i (getD choices i 0)))
-
-done-of-tasks : {p : Parts} {m : Numbers} → Sound p m → m .done ≤ m .tasks
-done-of-tasks {p} {m} sound =
-    omega (arith, sound .kept .done-right, count-set-at-most (worked-view (p .pending) (m .tasks)), flags-shown (p .pending) (m .tasks))
 
 -- ---- frames
 
@@ -115,9 +110,6 @@ module _ {memory words choices : List ℕ} (tick : TickTurn memory words choices
         counted = omega arith;
       }
 
-  pub some-left : word words 2 ≤ word words 0
-  some-left = done-of-tasks (tick .sound)
-
   pub few-choices : length choices ≤ 64
   few-choices =
       let shown = workers-shown (parts memory .next) (parts memory .ends) (numbers-in words .workers) in
@@ -140,7 +132,7 @@ module _ {memory words choices : List ℕ} (tick : TickTurn memory words choices
         let same = u .same-words .same-others in
         record {
           size = u .same-words .same-length ∙ tick .size;
-          done-fits = omega (arith, done-of-tasks (u .sound), u .sound .few-tasks);
+          done-fits = omega (arith, done-at-most (parts memory′) m′ (u .sound .kept .done-right), u .sound .few-tasks);
           waited = omega (arith, u .mugged, same 9 (λ e. omega arith), same 4 (λ e. omega arith));
           head-in-ring = rw (same 8 (λ e. omega arith)) (tick .sound .kept .head-in-ring);
           counted = omega (arith, u .counted);

@@ -11,27 +11,27 @@ use Rattle.clock.proofs.end_tick.Statement.{statement}
 use Rattle.clock.proofs.end_tick.Tie as tie
 
 -- the function's entry, from each of the two tests; and the words that it got, where the quantum closes
-abbrev from-finish : tie.After-if12 → tie.Start
-from-finish c = c .before .before .before
+abbrev from-length : tie.After-if13 → tie.Start
+from-length c = c .before .before .before
 
-abbrev from-length : tie.After-if23 → tie.Start
-from-length c = from-finish (c .before .before .before)
+abbrev from-finish : tie.After-if22 → tie.Start
+from-finish c = from-length (c .before .before .before)
 
 abbrev words : tie.Else2 → List ℕ
-words c = now (from-length (c .before) .args .words)
+words c = now (from-finish (c .before) .args .words)
 
 abbrev closing : tie.After-next-desire-arg5 → tie.Else2
 closing c = c .before .before .before .before .before
 
 returns : tie.Need-returns
 returns c =
-    let entry = from-finish (c .before) in
-    finished-ended _ (entry .pre .size) (entry .pre .its-quantum) (omega (arith, c .if1 .taken))
+    let entry = from-length (c .before) in
+    unclosed-ended _ (entry .pre .size) (entry .pre .its-quantum) (λ e. omega (arith, c .if1 .taken))
 
 returns-2 : tie.Need-returns-2
 returns-2 c =
-    let entry = from-length (c .before) in
-    unclosed-ended _ (entry .pre .size) (entry .pre .its-quantum) (λ e. omega (arith, c .if2 .taken))
+    let entry = from-finish (c .before) in
+    finished-ended _ (entry .pre .size) (entry .pre .its-quantum) (omega (arith, c .if2 .taken))
 
 cast-next-desire : tie.Need-cast-next-desire
 cast-next-desire c = omega (arith, counted-other (words (c .before)) 10 (λ e. omega arith))
@@ -56,13 +56,13 @@ next-desire-requires c κs =
       counted-other (words last) 13 (λ e. omega arith),
       counted-other (words last) 7 (λ e. omega arith),
     )
-    (from-length (last .before) .pre .closable)
+    (from-finish (last .before) .pre .closable)
 
 returns-3 : tie.Need-returns-3
 returns-3 c =
     let last = closing (c .before .before) in
-    closed-ended (words last) (from-length (last .before) .pre .size) (last .before .before .before .if1 .left) (last .if2 .left) _
-    (c .next-desire .ensures)
+    closed-ended (words last) (from-finish (last .before) .pre .size) (λ all. omega (arith, all, last .if2 .left))
+    (last .before .before .before .if1 .left) _ (c .next-desire .ensures)
 
 pub end-tick-spec : {M : Type 1} → statement M
 end-tick-spec =
