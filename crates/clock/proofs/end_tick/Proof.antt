@@ -51,12 +51,14 @@ cast-next-desire-5 c = omega (arith, counted-other (words (closing c)) 1 (λ e. 
 next-desire-requires : tie.Need-next-desire-requires
 next-desire-requires c κs =
     let last = closing (c .before) in
-    rw (
-      counted-other (words last) 10 (λ e. omega arith),
-      counted-other (words last) 13 (λ e. omega arith),
-      counted-other (words last) 7 (λ e. omega arith),
-    )
-    (from-finish (last .before) .pre .closable)
+    let closable = from-finish (last .before) .pre .closable in
+    let same-responsiveness = counted-other (words last) 10 (λ e. omega arith) in
+    let same-desire = counted-other (words last) 13 (λ e. omega arith) in
+    let same-usage = counted-other (words last) 7 (λ e. omega arith) in
+    record {
+      desired = rw (same-responsiveness, same-desire) (closable .desired);
+      usage-fits = omega (arith, same-desire, same-usage, closable .usage-fits, closable .desired .at-most);
+    }
 
 returns-3 : tie.Need-returns-3
 returns-3 c =
