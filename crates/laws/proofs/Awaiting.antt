@@ -11,12 +11,11 @@ use lib.Dec.{eqb}
 use lib.ListN.{length, getD, set, replicate}
 use lib.Seq.{getD-set-same, getD-set-other}
 use borrow.Author.Tests.{eqb-true, eqb-false, ne-eqb}
-use Rattle.model.specs.Tests.{below, every, keep, member}
+use Rattle.model.specs.Tests.{below, every, keep, member, occurrences}
 use Rattle.model.specs.Plan.{Graph, tasks, successors-of, predecessors}
-use Rattle.model.specs.Machine.{ready, completed}
+use Rattle.model.specs.Machine.{ready}
 use Rattle.model.specs.Statements.{SoundGraph}
-use Rattle.laws.specs.Invariants.{occurrences}
-use Rattle.laws.specs.Awaited.{still-awaited}
+use Rattle.laws.specs.Awaited.{completed, still-awaited}
 use Rattle.lists.proofs.Lists.{alike}
 use Rattle.laws.proofs.Deques.{occurrences-append, occurrences-keep}
 

@@ -10,10 +10,11 @@ use native.Mathlib.Omega.{arith}
 use lib.Dec.{eqb}
 use lib.ListN.{length, getD, set, length-set, length-append}
 use borrow.Author.Tests.{eqb-false}
+use Rattle.model.specs.Tests.{occurrences}
 use Rattle.model.specs.Plan.{Graph, tasks}
-use Rattle.model.specs.Machine.{Execution, deque-of, completed, released, left-by-steal, taken-by-steal, work-cycle, mug-cycle}
+use Rattle.model.specs.Machine.{Execution, deque-of, one-tick-less, worked-deque, left-by-steal, taken-by-steal, work-cycle, mug-cycle}
 use Rattle.model.specs.Machine.{successful-steal, failed-steal, cycle, cycles}
-use Rattle.laws.specs.Invariants.{occurrences, in-deques, Placed, Bounded}
+use Rattle.laws.specs.Invariants.{in-deques, Placed, Bounded}
 use Rattle.laws.proofs.Deques.{one-if-filled, one-at-most, busy-set, busy-at-most, occurrences-append, occurs}
 use Rattle.laws.proofs.Cycles.{cycle-cases, cycles-keep}
 use Rattle.laws.proofs.Placement.{stands, standing-once}
@@ -36,7 +37,7 @@ cycle-bounded {most} {e} graph b w choice here =
     (λ c after. Bounded most after)
     (record {
       working = λ t rest own.
-          let new : List ℕ = released graph (completed t (e .worked)) t ++ tail (deque-of e w) in
+          let new : List ℕ = worked-deque graph (one-tick-less t (e .left)) t (deque-of e w) in
           let left : one-if-filled (deque-of e w) ≡ 1 = ap one-if-filled own in
           record {
             workers = omega (arith, length-set (e .deques) w new, b .workers);

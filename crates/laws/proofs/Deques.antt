@@ -9,10 +9,10 @@ use native.Mathlib.Omega.{arith}
 use lib.Dec.{eqb}
 use lib.ListN.{length, getD, take, drop, set, replicate, take-append-drop}
 use borrow.Author.Tests.{eqb-true, eq-eqb}
-use Rattle.model.specs.Tests.{keep, is-empty, member}
+use Rattle.model.specs.Tests.{keep, is-empty, member, occurrences}
 use Rattle.lists.proofs.Tests.{true-is-not-false}
 use Rattle.lists.proofs.Lists.{at-place, member-is}
-use Rattle.laws.specs.Invariants.{occurrences, in-deques, busy}
+use Rattle.laws.specs.Invariants.{in-deques, busy}
 
 -- ---- how often a number stands in a list
 

@@ -10,15 +10,16 @@ use native.Mathlib.Omega.{arith}
 use lib.Dec.{eqb, ltb}
 use lib.ListN.{length, take, drop, replicate, length-append, length-take, length-replicate, length-reverse}
 use borrow.Author.Tests.{ltb-true, ltb-false, ne-eqb}
-use Rattle.model.specs.Tests.{every, keep}
-use Rattle.model.specs.Plan.{Graph, tasks}
+use Rattle.model.specs.Tests.{every, keep, occurrences, zeros}
+use Rattle.model.specs.Plan.{Plan, Graph, tasks}
 use Rattle.model.specs.Machine.{State, allotment, kept-deques, withdrawn-deques, first-task-placed, place-first-task, grant}
-use Rattle.model.specs.Statements.{SoundGraph}
-use Rattle.laws.specs.Invariants.{occurrences, in-deques, busy, waiting-work, Placed, Bounded}
+use Rattle.model.specs.Statements.{SoundPlan, SoundGraph}
+use Rattle.laws.specs.Invariants.{in-deques, busy, waiting-work, Placed, Bounded}
 use Rattle.laws.specs.Reached.{Unstarted}
 use Rattle.lists.proofs.Tests.{true-is-not-false}
 use Rattle.laws.proofs.Deques.{non-empty, in-deques-append, in-deques-reverse, in-deques-split, in-deques-non-empty, in-deques-empty}
 use Rattle.lists.proofs.Lists.{every-append, every-reverse, kept-passes, alike}
+use Rattle.lists.proofs.Sums.{zeros-none}
 use Rattle.laws.proofs.Deques.{busy-append, busy-split, busy-non-empty, busy-empty, busy-at-most}
 use Rattle.laws.proofs.Withdrawals.{none-withdrawn}
 use Rattle.laws.proofs.Readiness.{is-waiting, first-ready, others-not-ready, not-waiting-unready, not-waiting-outside}
@@ -101,7 +102,7 @@ module _ (s : State) (on : s .started ≡ true) (g : ℕ) where
   grant-placed placed =
       rw on
       (record {
-        flags = placed .flags;
+        each-left = placed .each-left;
         once = λ t.
             omega (
               arith,
@@ -133,7 +134,13 @@ module _ (s : State) (on : s .started ≡ true) (g : ℕ) where
 
 -- ---- the first grant above 0
 
--- at the beginning task 0 alone is ready
+-- at the beginning no task is worked: each has a tick left
+pub none-worked : {plan : Plan} → SoundPlan plan → zeros (plan .durations) ≡ replicate (tasks (plan .graph)) false
+none-worked {plan} sound =
+    zeros-none (plan .durations) (λ t l. sound .lasting t (rw (sound .each-lasts) at l))
+    ∙ ap (λ (n : ℕ). replicate n false) (sound .each-lasts)
+
+-- .. and task 0 alone is ready
 first-waiting : {graph : Graph} → SoundGraph graph → (t : ℕ) → waiting-work graph (replicate (tasks graph) false) t ≡ eqb t 0
 first-waiting {graph} sound zero =
     is-waiting graph (replicate (tasks graph) false) 0
@@ -150,17 +157,19 @@ first-waiting {graph} sound (suc t) = go (ltb (suc t) (tasks graph)) refl ∙ sy
         (others-not-ready sound (suc t) (omega arith) (ltb-true (suc t) (tasks graph) h))
     go false h = not-waiting-outside graph (replicate (tasks graph) false) (suc t) (ltb-false (suc t) (tasks graph) h)
 
-module _ {graph : Graph} (s : State) (off : s .started ≡ false) (u : Unstarted graph (s .execution)) where
-  pub first-grant-placed : SoundGraph graph → (g : ℕ) → 1 ≤ g → Placed graph (grant g s .execution)
+module _ {plan : Plan} (s : State) (off : s .started ≡ false) (u : Unstarted plan (s .execution)) where
+  pub first-grant-placed : SoundPlan plan → (g : ℕ) → 1 ≤ g → Placed (plan .graph) (grant g s .execution)
   unfolding grant first-task-placed every in-deques occurrences
   first-grant-placed sound zero l = absurd (not-suc-le-zero l)
   first-grant-placed sound (suc n) l =
-      rw (off, u .no-deques, u .no-muggable, u .none-worked, first-deques n, none-withdrawn (suc n) [] (omega arith))
+      rw (off, u .no-deques, u .no-muggable, u .none-begun, first-deques n, none-withdrawn (suc n) [] (omega arith))
       (record {
-        flags = length-replicate (tasks graph) false;
-        once = λ t. omega (arith, in-deques-empty t n, ap (λ (b : Bool). cond {A = ℕ} b 1 0) (first-waiting sound t));
+        each-left = sound .each-lasts;
+        once = λ t.
+            rw (none-worked sound)
+            (omega (arith, in-deques-empty t n, ap (λ (b : Bool). cond {A = ℕ} b 1 0) (first-waiting (sound .graph) t)));
         filled = refl;
-        ordered = λ t h. absurd (true-is-not-false h (alike (tasks graph) t false));
+        ordered = rw (none-worked sound) (λ t h. absurd (true-is-not-false h (alike (tasks (plan .graph)) t false)));
       })
 
   pub first-grant-bounded : (g : ℕ) → 1 ≤ g → Bounded g (grant g s .execution)
@@ -175,8 +184,8 @@ module _ {graph : Graph} (s : State) (off : s .started ≡ false) (u : Unstarted
       })
 
   -- a grant of 0 before it leaves nothing anywhere
-  pub no-grant-unstarted : Unstarted graph (grant 0 s .execution)
+  pub no-grant-unstarted : Unstarted plan (grant 0 s .execution)
   unfolding grant first-task-placed kept-deques
   no-grant-unstarted =
-      rw (off, u .no-deques, u .no-muggable, u .none-worked, none-withdrawn 0 [] (omega arith))
-      (record { none-worked = refl; no-deques = refl; no-muggable = refl })
+      rw (off, u .no-deques, u .no-muggable, u .none-begun, none-withdrawn 0 [] (omega arith))
+      (record { none-begun = refl; no-deques = refl; no-muggable = refl })

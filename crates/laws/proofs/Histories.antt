@@ -8,10 +8,11 @@ use Prim.Native.Nat.{ℕ, zero, suc, _+_, _*_, _≤_, max}
 use native.Mathlib.Nat.{mul-suc, mul-le-mul, div-le-self}
 use native.Mathlib.Omega.{arith}
 use lib.Dec.{eqb, leb}
-use lib.ListN.{length, length-replicate}
+use lib.ListN.{length}
 use borrow.Author.Tests.{eqb-false, ne-eqb, leb-true}
-use Rattle.model.specs.Plan.{Plan, Terms, Graph, tasks, most-tasks, longest-quantum}
-use Rattle.model.specs.Machine.{Execution, State, allotment, idle, opened, ticks-of, fresh, grant, cycles, cycles-made, tick, ticked}
+use Rattle.model.specs.Tests.{total}
+use Rattle.model.specs.Plan.{Plan, Terms, Graph, tasks, duration-of, most-tasks, longest-quantum, longest-duration}
+use Rattle.model.specs.Machine.{worked, Execution, State, allotment, idle, opened, ticks-of, fresh, grant, cycles, cycles-made, tick, ticked}
 use Rattle.model.specs.Machine.{closes, closed, finished, most-workers, next-desire, Call, efficient-now, satisfied-now}
 use Rattle.model.specs.History.{ClosedQuantum, CurrentQuantum, none, begun-with, History, beginning, history-grant, history-tick, verdict}
 use Rattle.model.specs.History.{run}
@@ -21,7 +22,7 @@ use Rattle.model.specs.WholeTicks.{all-counted}
 use Rattle.laws.specs.Reached.{Unstarted, Arranged, granted-in, largest-closed, largest-granted, OpenQuantum, Measured}
 use Rattle.laws.specs.Reached.{CountsFit}
 use Rattle.lists.proofs.Tests.{true-is-not-false}
-use Rattle.lists.proofs.Lists.{count-set-none, count-set-at-most}
+use Rattle.lists.proofs.Sums.{zeros-length, total-at-most}
 use Rattle.laws.proofs.Cycles.{cycles-allotment}
 use Rattle.laws.proofs.Placement.{cycles-placed, cycles-tallied}
 use Rattle.laws.proofs.Bounds.{bounded-more, cycles-bounded}
@@ -34,24 +35,24 @@ use Rattle.laws.proofs.Runs.{history-closed, run-keeps, by-moves}
 -- ---- where the tasks stand
 
 -- with no worker a tick does nothing
-pub unstarted-cycles : (graph : Graph) (e : Execution) → Unstarted graph e → (choices : List ℕ) → length choices ≡ length (e .deques) →
-    (cycles graph 0 choices e ≡ e) × (cycles-made graph 0 choices e ≡ [])
+pub unstarted-cycles : {plan : Plan} (e : Execution) → Unstarted plan e → (choices : List ℕ) → length choices ≡ length (e .deques) →
+    (cycles (plan .graph) 0 choices e ≡ e) × (cycles-made (plan .graph) 0 choices e ≡ [])
 unfolding cycles cycles-made
-unstarted-cycles graph e u [] h = (refl, refl)
-unstarted-cycles graph e u (c ∷ choices) h = let z : _≡_ {A = ℕ} (length (e .deques)) 0 = ap length (u .no-deques) in absurd (omega arith)
+unstarted-cycles e u [] h = (refl, refl)
+unstarted-cycles e u (c ∷ choices) h = let z : _≡_ {A = ℕ} (length (e .deques)) 0 = ap length (u .no-deques) in absurd (omega arith)
 
 module _ {plan : Plan} (sound : SoundPlan plan) where
   pub fresh-arranged : Arranged plan (fresh plan)
   unfolding fresh
   fresh-arranged =
       record {
-        before = λ h. record { none-worked = refl; no-deques = refl; no-muggable = refl };
+        before = λ h. record { none-begun = refl; no-deques = refl; no-muggable = refl };
         after = λ h. absurd (true-is-not-false h refl);
-        tally = record { work-is-tasks = sym (count-set-none (tasks (plan .graph))) };
+        tally = record { work-is-ticks = omega arith };
       }
 
   module _ (s : State) (a : Arranged plan s) where
-    still-unstarted : (g : ℕ) → grant g s .started ≡ false → Unstarted (plan .graph) (grant g s .execution)
+    still-unstarted : (g : ℕ) → grant g s .started ≡ false → Unstarted plan (grant g s .execution)
     unfolding grant
     still-unstarted zero h = no-grant-unstarted s h (a .before h)
     still-unstarted (suc n) h = absurd (true-is-not-false refl (rw (ne-eqb (suc n) 0 (omega arith)) at h))
@@ -63,14 +64,14 @@ module _ {plan : Plan} (sound : SoundPlan plan) where
       where
         go : (b : Bool) → s .started ≡ b → Placed (plan .graph) (grant (suc n) s .execution)
         go true on = grant-placed s on (suc n) (a .after on)
-        go false off = first-grant-placed s off (a .before off) (sound .graph) (suc n) (omega arith)
+        go false off = first-grant-placed s off (a .before off) sound (suc n) (omega arith)
 
     pub grant-arranged : (g : ℕ) → Arranged plan (grant g s)
     grant-arranged g =
         record {
           before = still-unstarted g;
           after = then-placed g;
-          tally = unfold grant in record { work-is-tasks = a .tally .work-is-tasks };
+          tally = unfold grant in record { work-is-ticks = a .tally .work-is-ticks };
         }
 
     pub tick-arranged : (choices : List ℕ) → TickAccepted choices s → Arranged plan (tick plan choices s)
@@ -78,7 +79,7 @@ module _ {plan : Plan} (sound : SoundPlan plan) where
         record {
           before = λ h.
               let off = sym (tick-started plan choices s) ∙ h in
-              rw (tick-execution plan choices s, unstarted-cycles (plan .graph) (s .execution) (a .before off) choices (t .one-each) .0)
+              rw (tick-execution plan choices s, unstarted-cycles (s .execution) (a .before off) choices (t .one-each) .0)
               (a .before off);
           after = λ h.
               let on = sym (tick-started plan choices s) ∙ h in
@@ -86,9 +87,9 @@ module _ {plan : Plan} (sound : SoundPlan plan) where
           tally = rw (tick-execution plan choices s) (go (s .started) refl);
         }
       where
-        go : (b : Bool) → s .started ≡ b → Tallied (cycles (plan .graph) 0 choices (s .execution))
+        go : (b : Bool) → s .started ≡ b → Tallied (plan .durations) (cycles (plan .graph) 0 choices (s .execution))
         go true on = cycles-tallied (sound .graph) (a .after on) (a .tally) 0 choices (omega (arith, t .one-each))
-        go false off = rw (unstarted-cycles (plan .graph) (s .execution) (a .before off) choices (t .one-each) .0) (a .tally)
+        go false off = rw (unstarted-cycles (s .execution) (a .before off) choices (t .one-each) .0) (a .tally)
 
   pub arranged : (calls : List Call) → Arranged plan (run plan calls .state)
   unfolding beginning history-grant history-tick
@@ -111,22 +112,25 @@ module _ {plan : Plan} {s : State} (a : Arranged plan s) where
   pub workers-placed : 1 ≤ allotment s → Placed (plan .graph) (s .execution)
   workers-placed h = a .after (workers-started h)
 
-  -- started or not, there is a flag for each task
-  pub flags-length : length (s .execution .worked) ≡ tasks (plan .graph)
-  flags-length = go (s .started) refl
+  -- started or not, there are ticks left, and a flag, for each task
+  pub left-length : SoundPlan plan → length (s .execution .left) ≡ tasks (plan .graph)
+  left-length sound = go (s .started) refl
     where
-      go : (b : Bool) → s .started ≡ b → length (s .execution .worked) ≡ tasks (plan .graph)
-      go true on = a .after on .flags
-      go false off = ap length (a .before off .none-worked) ∙ length-replicate (tasks (plan .graph)) false
+      go : (b : Bool) → s .started ≡ b → length (s .execution .left) ≡ tasks (plan .graph)
+      go true on = a .after on .each-left
+      go false off = ap length (a .before off .none-begun) ∙ sound .each-lasts
 
-  pub work-at-most : s .execution .counts .works .work ≤ tasks (plan .graph)
-  work-at-most = omega (arith, a .tally .work-is-tasks, count-set-at-most (s .execution .worked), flags-length)
+  pub flags-length : SoundPlan plan → length (worked (s .execution)) ≡ tasks (plan .graph)
+  flags-length sound = zeros-length (s .execution .left) ∙ left-length sound
+
+  pub work-at-most : s .execution .counts .works .work ≤ total (plan .durations)
+  work-at-most = omega (arith, a .tally .work-is-ticks)
 
 -- ---- how many deques
 
-unstarted-bounded : {graph : Graph} {e : Execution} (most : ℕ) → Unstarted graph e → Bounded most e
+unstarted-bounded : {plan : Plan} {e : Execution} (most : ℕ) → Unstarted plan e → Bounded most e
 unfolding busy
-unstarted-bounded {graph} {e} most u =
+unstarted-bounded {plan} {e} most u =
     let a : length (e .deques) ≡ 0 = ap length (u .no-deques) in
     let b : busy (e .deques) ≡ 0 = ap busy (u .no-deques) in
     let c : length (e .muggable) ≡ 0 = ap length (u .no-muggable) in
@@ -340,12 +344,18 @@ module _ {plan : Plan} (sound : SoundPlan plan) where
 -- ---- in numbers
 
 pub counts-fit : {plan : Plan} → SoundPlan plan → plan .terms .quantum-length ≤ longest-quantum → tasks (plan .graph) ≤ most-tasks →
-    (calls : List Call) → CountsFit (run plan calls .state)
-counts-fit sound short small calls =
+    ((t : ℕ) → duration-of plan t ≤ longest-duration) → (calls : List Call) → CountsFit (run plan calls .state)
+counts-fit {plan} sound short small brief calls =
     let m = measured sound calls in
     let product = mul-le-mul short (m .quanta) in
     record {
-      work = omega (arith, work-at-most (arranged sound calls));
+      work =
+          omega (
+            arith,
+            work-at-most (arranged sound calls),
+            total-at-most longest-duration (plan .durations) brief,
+            sound .each-lasts,
+          );
       usage = omega (arith, m .usage-at-most);
       all-cycles = omega (arith, m .cycles-at-most);
       successes = omega (arith, m .cycles-at-most, m .successful);

@@ -11,18 +11,21 @@ use lib.Dec.{eqb}
 use lib.ListN.{length, getD, set, length-set}
 use lib.Seq.{getD-set-same, getD-set-other, lt-length-set}
 use borrow.Author.Tests.{eqb-true, eqb-false, lt-ltb}
-use Rattle.model.specs.Tests.{every, keep, is-empty, member}
+use Rattle.model.specs.Tests.{every, keep, is-empty, member, occurrences}
 use Rattle.model.specs.Plan.{Graph, tasks, successors-of}
-use Rattle.model.specs.Machine.{Execution, deque-of, ready, completed, released, left-by-steal, taken-by-steal, work-cycle, mug-cycle}
-use Rattle.model.specs.Machine.{successful-steal, failed-steal, cycle, turn, cycles, finished}
+use Rattle.model.specs.Machine.{worked, Execution, deque-of, ready, released, left-by-steal, taken-by-steal, work-cycle, mug-cycle}
+use Rattle.model.specs.Machine.{one-tick-less, successful-steal, failed-steal, cycle, turn, cycles, finished}
 use Rattle.model.specs.Statements.{SoundGraph}
-use Rattle.laws.specs.Invariants.{occurrences, in-deques, waiting-work, Placed, Tallied}
+use Rattle.laws.specs.Awaited.{completed}
+use Rattle.laws.specs.Invariants.{in-deques, waiting-work, Placed, Tallied}
 use Rattle.lists.proofs.Tests.{true-is-not-false, not-true-is-false, one-or-none, is-one, and-right}
-use Rattle.lists.proofs.Lists.{member-is, count-set-more, all-set-at}
+use Rattle.lists.proofs.Lists.{member-is, all-set-at}
+use Rattle.lists.proofs.Sums.{zeros-length, total-set}
 use Rattle.laws.proofs.Deques.{occurrences-append, occurrences-keep, occurs, no-member, in-deques-set, one-deque}
 use Rattle.laws.proofs.Stealing.{left-then-taken, apart, victim-within}
 use Rattle.laws.proofs.Readiness.{ready-elsewhere, ready-kept, not-ready, is-ready, above, inside, successor-once, Waits, waits}
 use Rattle.laws.proofs.Readiness.{is-waiting, not-waiting-worked, not-waiting-unready}
+use Rattle.laws.proofs.WorkTicks.{WorkTick, goes-on, completes, work-tick, some-left}
 use Rattle.laws.proofs.Cycles.{cycle-cases, fails, turn-unfinished, turn-finished, cycles-keep}
 
 -- ---- what a placed execution tells
@@ -32,40 +35,44 @@ abbrev pub standing : ℕ → Execution → ℕ
 standing t e = in-deques t (e .deques) + in-deques t (e .muggable)
 
 module _ {graph : Graph} {e : Execution} (placed : Placed graph e) where
+  -- a flag for each task
+  pub flags-of : length (worked e) ≡ tasks graph
+  flags-of = zeros-length (e .left) ∙ placed .each-left
+
   pub standing-once : (t : ℕ) → standing t e ≤ 1
-  standing-once t = omega (arith, placed .once t, one-or-none (waiting-work graph (e .worked) t))
+  standing-once t = omega (arith, placed .once t, one-or-none (waiting-work graph (worked e) t))
 
   -- a task that stands in a deque is one of the plan, ready and unworked
-  pub stands : (t : ℕ) → 1 ≤ standing t e → Waits graph (e .worked) t
-  stands t h = waits graph (e .worked) t (is-one (waiting-work graph (e .worked) t) (omega (arith, placed .once t)))
+  pub stands : (t : ℕ) → 1 ≤ standing t e → Waits graph (worked e) t
+  stands t h = waits graph (worked e) t (is-one (waiting-work graph (worked e) t) (omega (arith, placed .once t)))
 
-  pub waiting-stands : (t : ℕ) → Waits graph (e .worked) t → standing t e ≡ 1
-  waiting-stands t h = placed .once t ∙ ap (λ (b : Bool). cond b 1 0) (is-waiting graph (e .worked) t h)
+  pub waiting-stands : (t : ℕ) → Waits graph (worked e) t → standing t e ≡ 1
+  waiting-stands t h = placed .once t ∙ ap (λ (b : Bool). cond b 1 0) (is-waiting graph (worked e) t h)
 
   -- a task in a worker's deque
-  pub worker-has : (t w : ℕ) → List·Memᴰ t (deque-of e w) → Waits graph (e .worked) t
+  pub worker-has : (t w : ℕ) → List·Memᴰ t (deque-of e w) → Waits graph (worked e) t
   worker-has t w m = stands t (omega (arith, occurs t (deque-of e w) m, one-deque t (e .deques) w))
 
-  pub front-waits : (w t : ℕ) (rest : List ℕ) → deque-of e w ≡ t ∷ rest → Waits graph (e .worked) t
+  pub front-waits : (w t : ℕ) (rest : List ℕ) → deque-of e w ≡ t ∷ rest → Waits graph (worked e) t
   front-waits w t rest h = worker-has t w (rw h (List·Memᴰ·head refl))
 
   -- a task that does not wait stands in no deque
-  pub absent : (t : ℕ) → waiting-work graph (e .worked) t ≡ false → (in-deques t (e .deques) ≡ 0) × (in-deques t (e .muggable) ≡ 0)
+  pub absent : (t : ℕ) → waiting-work graph (worked e) t ≡ false → (in-deques t (e .deques) ≡ 0) × (in-deques t (e .muggable) ≡ 0)
   absent t h = let none = placed .once t ∙ ap (λ (b : Bool). cond b 1 0) h in (omega arith, omega arith)
 
-  pub absent-unready : (t : ℕ) → ready graph (e .worked) t ≡ false → (in-deques t (e .deques) ≡ 0) × (in-deques t (e .muggable) ≡ 0)
-  absent-unready t h = absent t (not-waiting-unready graph (e .worked) t h)
+  pub absent-unready : (t : ℕ) → ready graph (worked e) t ≡ false → (in-deques t (e .deques) ≡ 0) × (in-deques t (e .muggable) ≡ 0)
+  absent-unready t h = absent t (not-waiting-unready graph (worked e) t h)
 
 -- ---- the successors of an unworked task
 
 module _ {graph : Graph} {e : Execution} (placed : Placed graph e) (t : ℕ) (l : t < tasks graph)
-    (u : getD (e .worked) t false ≡ false) where
-  pub successor-unready : (x : ℕ) → member x (successors-of graph t) ≡ true → ready graph (e .worked) x ≡ false
-  successor-unready x m = not-ready graph (e .worked) x t l m u
+    (u : getD (worked e) t false ≡ false) where
+  pub successor-unready : (x : ℕ) → member x (successors-of graph t) ≡ true → ready graph (worked e) x ≡ false
+  successor-unready x m = not-ready graph (worked e) x t l m u
 
-  pub successor-unworked : (x : ℕ) → member x (successors-of graph t) ≡ true → getD (e .worked) x false ≡ false
+  pub successor-unworked : (x : ℕ) → member x (successors-of graph t) ≡ true → getD (worked e) x false ≡ false
   successor-unworked x m =
-      not-true-is-false (getD (e .worked) x false) (λ h. true-is-not-false (placed .ordered x h) (successor-unready x m))
+      not-true-is-false (getD (worked e) x false) (λ h. true-is-not-false (placed .ordered x h) (successor-unready x m))
 
   -- so those that its work releases stand in no deque before
   pub released-stand-nowhere : (x : ℕ) → List·Memᴰ x (successors-of graph t) →
@@ -76,24 +83,24 @@ module _ {graph : Graph} {e : Execution} (placed : Placed graph e) (t : ℕ) (l 
 
 -- what working t changes of the tasks that wait: t leaves and its released successors come
 module _ {graph : Graph} {e : Execution} (sound : SoundGraph graph) (placed : Placed graph e) (t : ℕ)
-    (front : Waits graph (e .worked) t) where
+    (front : Waits graph (worked e) t) where
   after : List Bool
-  after = completed t (e .worked)
+  after = completed t (worked e)
 
-  in-range : t < length (e .worked)
-  in-range = rw (placed .flags) (front .of-plan)
+  in-range : t < length (worked e)
+  in-range = rw (flags-of placed) (front .of-plan)
 
   t-marked : getD after t false ≡ true
   unfolding after
-  t-marked = getD-set-same (e .worked) t true false in-range
+  t-marked = getD-set-same (worked e) t true false in-range
 
-  others-marked : (x : ℕ) → eqb x t ≡ false → getD after x false ≡ getD (e .worked) x false
+  others-marked : (x : ℕ) → eqb x t ≡ false → getD after x false ≡ getD (worked e) x false
   unfolding after
-  others-marked x ne = getD-set-other (e .worked) t x true false (eqb-false x t ne)
+  others-marked x ne = getD-set-other (worked e) t x true false (eqb-false x t ne)
 
   pub waiting-change : (x : ℕ) →
-      cond (waiting-work graph (e .worked) x) 1 0 + occurrences x (released graph (completed t (e .worked)) t)
-      ≡ cond (waiting-work graph (completed t (e .worked)) x) 1 0 + cond (eqb x t) 1 0
+      cond (waiting-work graph (worked e) x) 1 0 + occurrences x (released graph (completed t (worked e)) t)
+      ≡ cond (waiting-work graph (completed t (worked e)) x) 1 0 + cond (eqb x t) 1 0
   unfolding after released waiting-work
   waiting-change x = by-task (eqb x t) refl
     where
@@ -113,7 +120,7 @@ module _ {graph : Graph} {e : Execution} (sound : SoundGraph graph) (placed : Pl
       zero-more n false = refl
 
       by-successor : eqb x t ≡ false → (m : Bool) → member x (successors-of graph t) ≡ m →
-          cond (waiting-work graph (e .worked) x) 1 0 + occurrences x (keep (ready graph after) (successors-of graph t))
+          cond (waiting-work graph (worked e) x) 1 0 + occurrences x (keep (ready graph after) (successors-of graph t))
           ≡ cond (waiting-work graph after x) 1 0 + 0
       by-successor ne true m =
           rw (
@@ -130,19 +137,19 @@ module _ {graph : Graph} {e : Execution} (sound : SoundGraph graph) (placed : Pl
             occurrences-keep (ready graph after) x (successors-of graph t),
             no-member x (successors-of graph t) m,
             others-marked x ne,
-            ready-elsewhere graph (e .worked) t x m,
+            ready-elsewhere graph (worked e) t x m,
           )
-          (zero-more (cond (waiting-work graph (e .worked) x) 1 0) (ready graph (e .worked) x))
+          (zero-more (cond (waiting-work graph (worked e) x) 1 0) (ready graph (worked e) x))
 
       by-task : (b : Bool) → eqb x t ≡ b →
-          cond (waiting-work graph (e .worked) x) 1 0 + occurrences x (keep (ready graph after) (successors-of graph t))
+          cond (waiting-work graph (worked e) x) 1 0 + occurrences x (keep (ready graph after) (successors-of graph t))
           ≡ cond (waiting-work graph after x) 1 0 + cond b 1 0
       by-task true h =
           rw (
             eqb-true x t h,
             occurrences-keep (ready graph after) t (successors-of graph t),
             no-member t (successors-of graph t) not-own,
-            is-waiting graph (e .worked) t front,
+            is-waiting graph (worked e) t front,
             not-waiting-worked graph after t t-marked,
           )
           (zero-anyway (ready graph after t))
@@ -153,36 +160,50 @@ module _ {graph : Graph} {e : Execution} (sound : SoundGraph graph) (placed : Pl
 module _ {graph : Graph} {e : Execution} (sound : SoundGraph graph) (placed : Placed graph e) (w : ℕ) (here : w < length (e .deques)) where
   work-placed : (t : ℕ) (rest : List ℕ) → deque-of e w ≡ t ∷ rest → Placed graph (work-cycle graph w t e)
   unfolding work-cycle occurrences
-  work-placed t rest own =
-      record {
-        flags = length-set (e .worked) t true ∙ placed .flags;
-        once = λ x.
-            let moved = in-deques-set x (e .deques) w (freed ++ tail (deque-of e w)) here in
-            let gone : occurrences x (deque-of e w) ≡ occurrences x (t ∷ rest) = ap (occurrences x) own in
-            let kept : occurrences x (tail (deque-of e w)) ≡ occurrences x rest = ap (λ (d : List ℕ). occurrences x (tail d)) own in
-            omega (arith, occurrences-append x freed (tail (deque-of e w)), placed .once x, waiting-change sound placed t front x);
-        filled = placed .filled;
-        ordered = λ x h. by-task x (eqb x t) refl h;
-      }
+  work-placed t rest own = go (work-tick graph (e .left) t (deque-of e w) (rw (placed .each-left) (front .of-plan)) (front .unworked))
     where
-      front : Waits graph (e .worked) t
+      front : Waits graph (worked e) t
       front = front-waits placed w t rest own
 
       freed : List ℕ
-      freed = released graph (completed t (e .worked)) t
+      freed = released graph (completed t (worked e)) t
 
-      by-task : (x : ℕ) (b : Bool) → eqb x t ≡ b → getD (completed t (e .worked)) x false ≡ true →
-          ready graph (completed t (e .worked)) x ≡ true
-      by-task x true q h = ready-kept graph (e .worked) t x (rw (eqb-true x t q) (front .is-ready))
+      still-each : length (one-tick-less t (e .left)) ≡ tasks graph
+      still-each = length-set (e .left) t (getD (e .left) t 0 - 1) ∙ placed .each-left
+
+      by-task : (x : ℕ) (b : Bool) → eqb x t ≡ b → getD (completed t (worked e)) x false ≡ true →
+          ready graph (completed t (worked e)) x ≡ true
+      by-task x true q h = ready-kept graph (worked e) t x (rw (eqb-true x t q) (front .is-ready))
       by-task x false q h =
-          ready-kept graph (e .worked) t x (placed .ordered x (sym (getD-set-other (e .worked) t x true false (eqb-false x t q)) ∙ h))
+          ready-kept graph (worked e) t x (placed .ordered x (sym (getD-set-other (worked e) t x true false (eqb-false x t q)) ∙ h))
+
+      go : WorkTick graph (e .left) t (deque-of e w) → Placed graph (work-cycle graph w t e)
+      go (goes-on more flags stays) =
+          record {
+            each-left = still-each;
+            once = λ x. rw (flags, stays) (omega (arith, in-deques-set x (e .deques) w (deque-of e w) here, placed .once x));
+            filled = placed .filled;
+            ordered = rw flags (placed .ordered);
+          }
+      go (completes last flags leaves) =
+          record {
+            each-left = still-each;
+            once = λ x.
+                let moved = in-deques-set x (e .deques) w (freed ++ tail (deque-of e w)) here in
+                let gone : occurrences x (deque-of e w) ≡ occurrences x (t ∷ rest) = ap (occurrences x) own in
+                let kept : occurrences x (tail (deque-of e w)) ≡ occurrences x rest = ap (λ (d : List ℕ). occurrences x (tail d)) own in
+                rw (flags, leaves)
+                (omega (arith, occurrences-append x freed (tail (deque-of e w)), placed .once x, waiting-change sound placed t front x));
+            filled = placed .filled;
+            ordered = rw flags (λ x h. by-task x (eqb x t) refl h);
+          }
 
   mug-placed : (oldest : List ℕ) (others : List (List ℕ)) → deque-of e w ≡ [] → e .muggable ≡ oldest ∷ others →
       Placed graph (mug-cycle w oldest e)
   unfolding mug-cycle occurrences in-deques every
   mug-placed oldest others own waiting =
       record {
-        flags = placed .flags;
+        each-left = placed .each-left;
         once = λ x.
             let moved = in-deques-set x (e .deques) w oldest here in
             rw waiting (omega (arith, rw own at moved, rw waiting at (placed .once x)));
@@ -194,7 +215,7 @@ module _ {graph : Graph} {e : Execution} (sound : SoundGraph graph) (placed : Pl
   unfolding successful-steal occurrences
   steal-placed choice own two =
       record {
-        flags = placed .flags;
+        each-left = placed .each-left;
         once = λ x.
             let robbed = in-deques-set x (e .deques) choice left (victim-within e w choice own two) in
             let moved = in-deques-set x (set (e .deques) choice left) w taken (lt-length-set (e .deques) choice left here) in
@@ -222,7 +243,7 @@ module _ {graph : Graph} {e : Execution} (sound : SoundGraph graph) (placed : Pl
 -- a steal in vain moves nothing
 pub vain-placed : {graph : Graph} {e : Execution} → Placed graph e → Placed graph (failed-steal e)
 unfolding failed-steal
-vain-placed placed = record { flags = placed .flags; once = placed .once; filled = placed .filled; ordered = placed .ordered }
+vain-placed placed = record { each-left = placed .each-left; once = placed .once; filled = placed .filled; ordered = placed .ordered }
 
 pub cycle-placed : {graph : Graph} {e : Execution} → SoundGraph graph → Placed graph e → (w choice : ℕ) → w < length (e .deques) →
     Placed graph (cycle graph w choice e)
@@ -240,9 +261,9 @@ cycle-placed {graph} {e} sound placed w choice here =
 
 -- no task stands anywhere, so that the turn of each worker, a steal in vain, is the cycle that it would have taken
 module _ {graph : Graph} {e : Execution} (placed : Placed graph e) where
-  none-waits : finished e ≡ true → (t : ℕ) → Waits graph (e .worked) t → ⊥
+  none-waits : finished e ≡ true → (t : ℕ) → Waits graph (worked e) t → ⊥
   unfolding finished
-  none-waits f t here = true-is-not-false (all-set-at (e .worked) f t (rw (placed .flags) (here .of-plan))) (here .unworked)
+  none-waits f t here = true-is-not-false (all-set-at (worked e) f t (rw (flags-of placed) (here .of-plan))) (here .unworked)
 
   no-task : finished e ≡ true → (w : ℕ) → deque-of e w ≡ []
   no-task f w = go (deque-of e w) refl
@@ -279,35 +300,34 @@ pub cycles-placed : {graph : Graph} {e : Execution} → SoundGraph graph → Pla
 cycles-placed {graph} {e} sound placed w choices h =
     cycles-keep graph (Placed graph) (λ v c before l q. cycle-placed sound q v c l) (λ before q. vain-placed q) choices w e h placed
 
--- work counts the tasks that are worked
-vain-tallied : {e : Execution} → Tallied e → Tallied (failed-steal e)
+-- work counts the ticks done
+vain-tallied : {durations : List ℕ} {e : Execution} → Tallied durations e → Tallied durations (failed-steal e)
 unfolding failed-steal
-vain-tallied tallied = record { work-is-tasks = tallied .work-is-tasks }
+vain-tallied tallied = record { work-is-ticks = tallied .work-is-ticks }
 
-pub cycle-tallied : {graph : Graph} {e : Execution} → SoundGraph graph → Placed graph e → Tallied e → (w choice : ℕ) →
-    w < length (e .deques) → Tallied (cycle graph w choice e)
+cycle-tallied : {graph : Graph} {durations : List ℕ} {e : Execution} → Placed graph e → Tallied durations e → (w choice : ℕ) →
+    Tallied durations (cycle graph w choice e)
 unfolding work-cycle mug-cycle successful-steal
-cycle-tallied {graph} {e} sound placed tallied w choice here =
+cycle-tallied {graph} {durations} {e} placed tallied w choice =
     cycle-cases graph w choice e
-    (λ c after. Tallied after)
+    (λ c after. Tallied durations after)
     (record {
       working = λ t rest own.
           let front = front-waits placed w t rest own in
-          record {
-            work-is-tasks = ap suc (tallied .work-is-tasks)
-                ∙ sym (count-set-more (e .worked) t (rw (placed .flags) (front .of-plan)) (front .unworked));
-          };
-      mugging = λ oldest others own waiting. record { work-is-tasks = tallied .work-is-tasks };
-      stealing = λ own none two. record { work-is-tasks = tallied .work-is-tasks };
+          let inside : t < length (e .left) = rw (placed .each-left) (front .of-plan) in
+          let some = some-left (e .left) t inside (front .unworked) in
+          record { work-is-ticks = omega (arith, tallied .work-is-ticks, total-set (e .left) t (getD (e .left) t 0 - 1) inside) };
+      mugging = λ oldest others own waiting. record { work-is-ticks = tallied .work-is-ticks };
+      stealing = λ own none two. record { work-is-ticks = tallied .work-is-ticks };
       failing = λ own none few. vain-tallied tallied;
     })
 
-pub cycles-tallied : {graph : Graph} {e : Execution} → SoundGraph graph → Placed graph e → Tallied e → (w : ℕ) (choices : List ℕ) →
-    w + length choices ≤ length (e .deques) → Tallied (cycles graph w choices e)
-cycles-tallied {graph} {e} sound placed tallied w choices h =
+pub cycles-tallied : {graph : Graph} {durations : List ℕ} {e : Execution} → SoundGraph graph → Placed graph e → Tallied durations e →
+    (w : ℕ) (choices : List ℕ) → w + length choices ≤ length (e .deques) → Tallied durations (cycles graph w choices e)
+cycles-tallied {graph} {durations} {e} sound placed tallied w choices h =
     cycles-keep graph
-    (λ after. Placed graph after × Tallied after)
-    (λ v c before l q. (cycle-placed sound (q .0) v c l, cycle-tallied sound (q .0) (q .1) v c l))
+    (λ after. Placed graph after × Tallied durations after)
+    (λ v c before l q. (cycle-placed sound (q .0) v c l, cycle-tallied (q .0) (q .1) v c))
     (λ before q. (vain-placed (q .0), vain-tallied (q .1)))
     choices
     w

@@ -10,17 +10,18 @@ use native.Mathlib.Omega.{arith}
 use lib.Dec.{eqb}
 use lib.ListN.{length}
 use borrow.Author.Tests.{eqb-true, eqb-false}
+use Rattle.model.specs.Tests.{occurrences}
 use Rattle.model.specs.Plan.{Plan, Graph}
-use Rattle.model.specs.Machine.{Execution, deque-of, finished, work-cycle, mug-cycle, successful-steal, failed-steal}
+use Rattle.model.specs.Machine.{worked, Execution, deque-of, finished, work-cycle, mug-cycle, successful-steal, failed-steal}
 use Rattle.model.specs.Machine.{cycle, cycles, Call}
 use Rattle.model.specs.History.{history-step, history-tick, run}
 use Rattle.model.specs.Statements.{SoundPlan, SoundGraph, Progress}
-use Rattle.laws.specs.Invariants.{occurrences, in-deques, Placed}
+use Rattle.laws.specs.Invariants.{in-deques, Placed}
 use Rattle.lists.proofs.Lists.{first-unset}
 use Rattle.laws.proofs.Deques.{which-deque, filled-within}
 use Rattle.laws.proofs.Stealing.{left-filled, victim-after, others-after}
 use Rattle.laws.proofs.Readiness.{Waits, is-ready, above}
-use Rattle.laws.proofs.Placement.{waiting-stands}
+use Rattle.laws.proofs.Placement.{flags-of, waiting-stands}
 use Rattle.laws.proofs.Cycles.{cycle-cases, cycle-allotment, cycles-onward}
 use Rattle.laws.proofs.Meaning.{cycles-counted}
 use Rattle.laws.proofs.Histories.{arranged, workers-placed}
@@ -31,14 +32,14 @@ use Rattle.laws.proofs.Accepted.{TickAccepted, tick-accepted, tick-exec
 
 -- the least unworked task is ready: what comes before it has a smaller number
 pub some-task-waits : {graph : Graph} {e : Execution} → SoundGraph graph → Placed graph e → finished e ≡ false →
-    (t : ℕ) × Waits graph (e .worked) t
+    (t : ℕ) × Waits graph (worked e) t
 unfolding finished
 some-task-waits {graph} {e} sound placed unfinished =
-    let first = first-unset (e .worked) unfinished in (
+    let first = first-unset (worked e) unfinished in (
       first .0,
       record {
-        of-plan = rw (placed .flags) at (first .1);
-        is-ready = is-ready graph (e .worked) (first .0) (λ p l m. first .3 p (above sound p (first .0) l m));
+        of-plan = rw (flags-of placed) at (first .1);
+        is-ready = is-ready graph (worked e) (first .0) (λ p l m. first .3 p (above sound p (first .0) l m));
         unworked = first .2;
       },
     )
@@ -125,7 +126,7 @@ unfolding in-deques
 cycles-progress {graph} {e} sound placed f [] all some = absurd (omega arith)
 cycles-progress {graph} {e} sound placed f (choice ∷ choices) all some = go (e .muggable) refl
   where
-    task : (t : ℕ) × Waits graph (e .worked) t
+    task : (t : ℕ) × Waits graph (worked e) t
     task = some-task-waits sound placed f
 
     go : (ms : List (List ℕ)) → e .muggable ≡ ms → spent e < spent (cycles graph 0 (choice ∷ choices) e)

@@ -10,11 +10,11 @@ use lib.Dec.{eqb, ltb}
 use lib.ListN.{getD, set, replicate}
 use lib.Seq.{getD-set-same, getD-set-other}
 use borrow.Author.Tests.{eqb-true, eqb-false, ltb-true, lt-ltb, not-true}
-use Rattle.model.specs.Tests.{member, below}
+use Rattle.model.specs.Tests.{member, below, occurrences}
 use Rattle.model.specs.Plan.{Graph, tasks, successors-of, predecessors}
 use Rattle.model.specs.Machine.{ready}
 use Rattle.model.specs.Statements.{SoundGraph}
-use Rattle.laws.specs.Invariants.{occurrences, waiting-work}
+use Rattle.laws.specs.Invariants.{waiting-work}
 use Rattle.lists.proofs.Tests.{true-is-not-false, same-test, not-true-is-false, and-left, and-right}
 use Rattle.lists.proofs.Lists.{is-member, every-at, every-from}
 use Rattle.lists.proofs.Lists.{kept-from, kept-if, below-has, below-is, set-within, alike}

@@ -15,7 +15,7 @@ module _ (e : Execution) (thief victim : ℕ) (steals : Thief e thief) (two : 2 
       record {
         one-success =
             unfold successful-steal in
-            record { counted = refl; same-worked = refl; same-muggable = refl; same-workers = simp length-set };
+            record { counted = refl; same-left = refl; same-muggable = refl; same-workers = simp length-set };
         parted =
             rw (victim-after e thief victim (steals .empty) two, thief-after e thief victim (steals .empty) two (steals .granted))
             (left-then-taken (deque-of e victim));
@@ -26,7 +26,7 @@ module _ (e : Execution) (thief victim : ℕ) (steals : Thief e thief) (two : 2 
 vain : (e : Execution) → Vain e (failed-steal e)
 unfolding failed-steal
 vain e =
-    record { no-success = record { counted = refl; same-worked = refl; same-muggable = refl; same-workers = refl }; same-deques = refl }
+    record { no-success = record { counted = refl; same-left = refl; same-muggable = refl; same-workers = refl }; same-deques = refl }
 
 pub steals-half : (graph : Graph) → StealsHalf graph
 steals-half graph =

@@ -2,8 +2,8 @@
 -- included. The statements are those of model's specs/Statements.antt and of specs/ here. A stranger reads this first.
 -- Assumes nothing.
 use mathlib.Core.List.{List}
-use Prim.Native.Nat.{_≤_}
-use Rattle.model.specs.Plan.{Plan, tasks, most-tasks, longest-quantum}
+use Prim.Native.Nat.{ℕ, _≤_}
+use Rattle.model.specs.Plan.{Plan, tasks, duration-of, most-tasks, longest-quantum, longest-duration}
 use Rattle.model.specs.Machine.{Call}
 use Rattle.model.specs.History.{run}
 use Rattle.model.specs.Statements.{SoundPlan, Progress, Demand3, MugBound, OneIsEfficient, DesireIsPower, OnceAndInOrder, FinishedExactly}
@@ -11,6 +11,7 @@ use Rattle.model.specs.Statements.{StopsAtTop, EndsAsRecorded}
 use Rattle.model.specs.Thefts.{StealsHalf}
 use Rattle.model.specs.Muggings.{MuggedInTurn}
 use Rattle.model.specs.WholeTicks.{WholeTicks}
+use Rattle.model.specs.Lasting.{TicksAreWork, WorkIsTasks, OnlyFrontsBegun}
 use Rattle.laws.specs.Invariants.{Bounded}
 use Rattle.laws.specs.Reached.{Arranged, Measured, CountsFit, largest-granted}
 use Rattle.laws.specs.Spent.{SpentOnly}
@@ -25,6 +26,7 @@ use Rattle.laws.proofs.Carried as Carried
 use Rattle.laws.proofs.Tops as Tops
 use Rattle.laws.proofs.Progress as Progress
 use Rattle.laws.proofs.Order as Order
+use Rattle.laws.proofs.Fronts as Fronts
 use Rattle.laws.proofs.Histories as Histories
 use Rattle.laws.proofs.Meaning as Meaning
 use Rattle.laws.proofs.Thefts as Thefts
@@ -76,16 +78,29 @@ module _ {plan : Plan} (sound : SoundPlan plan) (calls : List Call) where
   pub ends-as-recorded : EndsAsRecorded plan (run plan calls)
   ends-as-recorded = Carried.ends-as-recorded sound ladder calls
 
-  -- "Each piece is worked at most once, after all before it"; the state shows exactly those of the order
+  -- "Each piece is worked at most once, after all before it", worked meaning completed, and no tick of it is done before; the state shows
+  -- exactly those that the order completes
   pub once-and-in-order : OnceAndInOrder plan (run plan calls)
   once-and-in-order = Order.once-and-in-order sound calls
+
+  -- a task's ticks done are at most its ticks, and the others are left; W is the sum over the tasks of the ticks done
+  pub ticks-are-work : TicksAreWork plan (run plan calls)
+  ticks-are-work = Order.ticks-are-work sound calls
+
+  -- where each task lasts one tick, as in form 1, W is the number of tasks worked
+  pub work-is-tasks : WorkIsTasks plan (run plan calls)
+  work-is-tasks = Order.work-is-tasks sound calls
+
+  -- "Only a front piece may be begun": after the calls, and inside a tick after each worker's cycle
+  pub only-fronts-begun : OnlyFrontsBegun plan (run plan calls)
+  only-fronts-begun = Fronts.only-fronts-begun sound calls
 
   -- "finished is shown when all pieces are worked and never otherwise"
   pub finished-exactly : FinishedExactly plan (run plan calls)
   finished-exactly = Order.finished-exactly sound calls
 
   -- once a worker was granted, the tasks in deques and muggable deques are exactly the ready unworked ones, each once; a muggable deque is
-  -- never empty; work counts the tasks worked
+  -- never empty; work counts the ticks done
   pub arranged : Arranged plan (run plan calls .state)
   arranged = Histories.arranged sound calls
 
@@ -98,8 +113,9 @@ module _ {plan : Plan} (sound : SoundPlan plan) (calls : List Call) where
   measured = Histories.measured sound calls
 
   -- the same in numbers, for fields of document 01's widths: no sum of the code can wrap
-  pub counts-fit : plan .terms .quantum-length ≤ longest-quantum → tasks (plan .graph) ≤ most-tasks → CountsFit (run plan calls .state)
-  counts-fit short small = Histories.counts-fit sound short small calls
+  pub counts-fit : plan .terms .quantum-length ≤ longest-quantum → tasks (plan .graph) ≤ most-tasks →
+      ((t : ℕ) → duration-of plan t ≤ longest-duration) → CountsFit (run plan calls .state)
+  counts-fit short small brief = Histories.counts-fit sound short small brief calls
 
   -- a grant meets 13 only where every tick of every quantum that may begin is used up: in quanta without a worker, or each with a work or
   -- mug cycle

@@ -3,18 +3,13 @@ use mathlib.Core.Path.{_≡_}
 use mathlib.Core.Bool.{Bool, true, false, cond, not, _&&_}
 use mathlib.Core.List.{List, [], _∷_}
 use Prim.Native.Nat.{ℕ, _+_, _≤_}
-use lib.Dec.{eqb, ltb}
+use lib.Dec.{ltb}
 use lib.ListN.{length, getD}
-use Rattle.model.specs.Tests.{every, is-empty, count-set}
+use Rattle.model.specs.Tests.{every, is-empty, occurrences, total}
 use Rattle.model.specs.Plan.{Graph, tasks}
-use Rattle.model.specs.Machine.{Execution, ready}
+use Rattle.model.specs.Machine.{Execution, worked, ready}
 
--- how often the task t stands in a deque
-unfoldable pub occurrences : ℕ → List ℕ → ℕ
-occurrences t [] = 0
-occurrences t (x ∷ xs) = cond (eqb t x) 1 0 + occurrences t xs
-
--- how often it stands in some deques
+-- how often the task t stands in some deques
 unfoldable pub in-deques : ℕ → List (List ℕ) → ℕ
 in-deques t [] = 0
 in-deques t (d ∷ ds) = occurrences t d + in-deques t ds
@@ -30,17 +25,17 @@ waiting-work graph worked t = ltb t (tasks graph) && (ready graph worked t && no
 
 -- "the tasks in deques and muggable deques are exactly the ready unworked ones, each once; a muggable deque is never empty"
 pub record Placed (graph : Graph) (e : Execution) : Type 0 where
-  pub flags : length (e .worked) ≡ tasks graph
-  pub once : (t : ℕ) → in-deques t (e .deques) + in-deques t (e .muggable) ≡ cond (waiting-work graph (e .worked) t) 1 0
+  pub each-left : length (e .left) ≡ tasks graph
+  pub once : (t : ℕ) → in-deques t (e .deques) + in-deques t (e .muggable) ≡ cond (waiting-work graph (worked e) t) 1 0
   pub filled : every (λ d. not (is-empty d)) (e .muggable) ≡ true
   -- a worked task's predecessors are worked: without it a task that is released might be worked already
-  pub ordered : (t : ℕ) → getD (e .worked) t false ≡ true → ready graph (e .worked) t ≡ true
+  pub ordered : (t : ℕ) → getD (worked e) t false ≡ true → ready graph (worked e) t ≡ true
 
 -- the non-empty deques and the muggable ones together number at most so many
 pub record Bounded (most : ℕ) (e : Execution) : Type 0 where
   pub workers : length (e .deques) ≤ most
   pub lines : busy (e .deques) + length (e .muggable) ≤ most
 
--- work counts the tasks that are worked
-pub record Tallied (e : Execution) : Type 0 where
-  pub work-is-tasks : e .counts .works .work ≡ count-set (e .worked)
+-- work counts the ticks done: with those that are left they are all ticks of the tasks
+pub record Tallied (durations : List ℕ) (e : Execution) : Type 0 where
+  pub work-is-ticks : e .counts .works .work + total (e .left) ≡ total durations

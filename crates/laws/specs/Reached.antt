@@ -4,23 +4,22 @@ use mathlib.Core.Path.{_≡_, refl}
 use mathlib.Core.Bool.{true, false}
 use mathlib.Core.List.{List, [], _∷_}
 use Prim.Native.Nat.{ℕ, _+_, _*_, _≤_, _<_, max}
-use lib.ListN.{replicate}
-use Rattle.model.specs.Plan.{Plan, Graph, tasks, most-tasks, longest-quantum}
+use Rattle.model.specs.Plan.{Plan, most-tasks, longest-quantum, longest-duration}
 use Rattle.model.specs.Machine.{Execution, State, allotment, opened, finished, quantum-limit, most-workers}
 use Rattle.model.specs.History.{ClosedQuantum, CurrentQuantum, none, begun-with, History}
 use Rattle.model.specs.WholeTicks.{all-counted}
 use Rattle.laws.specs.Invariants.{Placed, Bounded, Tallied}
 
--- before a count above 0 is granted nothing stands anywhere, and nothing is worked
-pub record Unstarted (graph : Graph) (e : Execution) : Type 0 where
-  pub none-worked : e .worked ≡ replicate (tasks graph) false
+-- before a count above 0 is granted nothing stands anywhere, and no tick is done
+pub record Unstarted (plan : Plan) (e : Execution) : Type 0 where
+  pub none-begun : e .left ≡ plan .durations
   pub no-deques : e .deques ≡ []
   pub no-muggable : e .muggable ≡ []
 
 pub record Arranged (plan : Plan) (s : State) : Type 0 where
-  pub before : s .started ≡ false → Unstarted (plan .graph) (s .execution)
+  pub before : s .started ≡ false → Unstarted plan (s .execution)
   pub after : s .started ≡ true → Placed (plan .graph) (s .execution)
-  pub tally : Tallied (s .execution)
+  pub tally : Tallied (plan .durations) (s .execution)
 
 -- ---- the largest count granted so far
 
@@ -63,9 +62,16 @@ most-cycles = most-workers * (longest-quantum * quantum-limit)
 pub most-cycles-are : most-cycles ≡ 17179607040
 most-cycles-are = refl
 
+-- every tick of every task that a plan can have
+abbrev pub most-work : ℕ
+most-work = longest-duration * most-tasks
+
+pub most-work-is : most-work ≡ 261120
+most-work-is = refl
+
 -- in numbers, for a plan whose fields have the widths of document 01: no count comes near 2^64
 pub record CountsFit (s : State) : Type 0 where
-  pub work : s .execution .counts .works .work ≤ most-tasks
+  pub work : s .execution .counts .works .work ≤ most-work
   pub usage : s .execution .counts .usage ≤ most-workers * longest-quantum
   pub all-cycles : all-counted (s .execution .counts) ≤ most-cycles
   pub successes : s .execution .counts .successes ≤ most-cycles

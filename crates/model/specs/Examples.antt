@@ -5,16 +5,16 @@ use mathlib.Core.List.{List, [], _∷_, _++_, map, flatMap}
 use Prim.Native.Nat.{ℕ, suc, _+_, _*_, _-_, _/_, _%_, _^_}
 use lib.Dec.{leb, ltb, eqb}
 use lib.ListN.{length, getD, take, drop, replicate}
-use Rattle.model.specs.Tests.{below, every, keep, member, count-set, all-set}
+use Rattle.model.specs.Tests.{below, every, keep, member, count-set, all-set, occurrences, zeros}
 use Rattle.model.specs.Questions.{accepted, refused, answer-number, first-no}
 use Rattle.model.specs.Plan
 use Rattle.model.specs.Plan.{Plan, plan-of, plan-answer, form-field, responsiveness-field, utilization-field, quantum-length-field}
-use Rattle.model.specs.Plan.{task-count, count-field, first-field, second-field}
+use Rattle.model.specs.Plan.{task-count, count-field, first-field, second-field, duration-field}
 use Rattle.model.specs.Machine
 use Rattle.model.specs.Machine.{State, Call, grants, ticks, call-answer, step, fresh, status, no-quantum-open, ticks-of}
 use Rattle.model.specs.Machine.{grant-questions, stolen-count, efficient, next-desire, top-desires, desire-at, most-workers}
 use Rattle.model.specs.History
-use Rattle.model.specs.History.{ClosedQuantum, CurrentQuantum, none, begun-with, run, work-order}
+use Rattle.model.specs.History.{ClosedQuantum, CurrentQuantum, none, begun-with, run, work-order, ticks-done}
 use Rattle.model.specs.WholeTicks
 use Rattle.model.specs.WholeTicks.{all-counted, worker-ticks}
 use Rattle.model.specs.Log
@@ -67,11 +67,19 @@ plan-a =
 task : ℕ → ℕ → ℕ → List ℕ
 task count first second = (count * 64 + first / 32) ∷ (first % 32 * 8 + second / 256) ∷ second % 256 ∷ []
 
--- a plan's bytes: R, D, L, and the bytes of each task
-plan-bytes : ℕ → ℕ → ℕ → List (List ℕ) → List ℕ
-plan-bytes r d l ts =
-    let h = 2 ^ 36 + r * 2 ^ 33 + d * 2 ^ 26 + l * 2 ^ 10 + (length ts - 1) in
+-- the four bytes of a task of form 2: the same fields, and its ticks
+lasting : ℕ → ℕ → ℕ → ℕ → List ℕ
+lasting count first second duration = task count first second ++ (duration ∷ [])
+
+-- a plan's bytes: its form, R, D, L, and the bytes of each task
+form-bytes : ℕ → ℕ → ℕ → ℕ → List (List ℕ) → List ℕ
+form-bytes form r d l ts =
+    let h = form * 2 ^ 36 + r * 2 ^ 33 + d * 2 ^ 26 + l * 2 ^ 10 + (length ts - 1) in
     (h / 2 ^ 32 % 256) ∷ (h / 2 ^ 24 % 256) ∷ (h / 2 ^ 16 % 256) ∷ (h / 2 ^ 8 % 256) ∷ (h % 256) ∷ flatMap (λ t. t) ts
+
+-- the same of form 1
+plan-bytes : ℕ → ℕ → ℕ → List (List ℕ) → List ℕ
+plan-bytes r d l ts = form-bytes 1 r d l ts
 
 -- Plan A's graph with another R, D or L
 diamond : ℕ → ℕ → ℕ → List ℕ
@@ -207,9 +215,12 @@ header-fields : List ℕ → List ℕ
 header-fields bytes =
     form-field bytes ∷ responsiveness-field bytes ∷ utilization-field bytes ∷ quantum-length-field bytes ∷ task-count bytes ∷ []
 
--- the three fields of task 0
+-- the three fields of task t, and its ticks
+fields-of : List ℕ → ℕ → List ℕ
+fields-of bytes t = count-field bytes t ∷ first-field bytes t ∷ second-field bytes t ∷ duration-field bytes t ∷ []
+
 task-fields : List ℕ → List ℕ
-task-fields bytes = count-field bytes 0 ∷ first-field bytes 0 ∷ second-field bytes 0 ∷ []
+task-fields bytes = fields-of bytes 0
 
 -- Plan A's fresh state, but for the number of quanta begun
 fresh-with : ℕ → State
@@ -293,12 +304,12 @@ plan-rows =
     row (header-fields (0x1f ∷ 0xff ∷ 0xff ∷ 0xff ∷ 0xff ∷ [])) (1 ∷ 7 ∷ 127 ∷ 65535 ∷ 1024 ∷ [])
     -- fields cross the bytes, most significant bit first
     ∷ row (header-fields (0xa5 ∷ 0x5a ∷ 0x96 ∷ 0x3c ∷ 0xc7 ∷ [])) (10 ∷ 2 ∷ 86 ∷ 42383 ∷ 200 ∷ [])
-    ∷ row (task-fields (0 ∷ 0 ∷ 0 ∷ 0 ∷ 0 ∷ 0xb5 ∷ 0x6a ∷ 0x5c ∷ [])) (2 ∷ 1709 ∷ 604 ∷ [])
+    ∷ row (task-fields (0x10 ∷ 0 ∷ 0 ∷ 0 ∷ 0 ∷ 0xb5 ∷ 0x6a ∷ 0x5c ∷ [])) (2 ∷ 1709 ∷ 604 ∷ 1 ∷ [])
     ∷ row (refusal (diamond 2 80 2)) (0 ∷ [])
     -- 1: fewer than 5 bytes, whatever they hold
     ∷ row (refusal [] ++ refusal (take 4 plan-a)) (1 ∷ 1 ∷ [])
-    -- 2: form 2, form 0
-    ∷ row (refusal (0x25 ∷ drop 1 plan-a) ++ refusal (0x05 ∷ drop 1 plan-a)) (2 ∷ 2 ∷ [])
+    -- 2: form 0, form 3, form 15
+    ∷ row (flatMap (λ first. refusal (first ∷ drop 1 plan-a)) (0x05 ∷ 0x35 ∷ 0xf5 ∷ [])) (2 ∷ 2 ∷ 2 ∷ [])
     -- the first "no" answers
     ∷ row (flatMap refusal (diamond 0 0 0 ∷ diamond 2 0 0 ∷ diamond 2 80 0 ∷ take 16 (diamond 2 80 0) ∷ [])) (3 ∷ 4 ∷ 5 ∷ 5 ∷ [])
     ∷ row (flatMap refusal (take 16 (diamond 1 0 0) ∷ take 5 plan-a ∷ [])) (3 ∷ 6 ∷ [])
@@ -324,6 +335,80 @@ plan-rows =
     ∷ row (refusal (plan-bytes 2 80 2 (task 0 0 0 ∷ task 1 2 0 ∷ task 0 0 0 ∷ []))) (9 ∷ [])
     -- piece 2 has no follower
     ∷ row (refusal (plan-bytes 2 80 2 (task 2 1 2 ∷ task 1 3 0 ∷ task 0 0 0 ∷ task 0 0 0 ∷ []))) (10 ∷ [])
+    ∷ []
+
+-- Plan A's graph in form 2, with a utilization of 1 percent: its tasks last 2, 3, 1 and 2 ticks
+lasting-diamond : ℕ → List ℕ
+lasting-diamond l = form-bytes 2 2 1 l (lasting 2 1 2 2 ∷ lasting 1 3 0 3 ∷ lasting 1 3 0 1 ∷ lasting 0 0 0 2 ∷ [])
+
+-- one task, and so many ticks
+one-lasting : ℕ → ℕ → List ℕ
+one-lasting l duration = form-bytes 2 2 100 l (lasting 0 0 0 duration ∷ [])
+
+-- three tasks in form 2 in a row, but for the first one's bytes
+after-first : List ℕ → List ℕ
+after-first first = form-bytes 2 2 80 2 (first ∷ lasting 3 0 0 1 ∷ lasting 0 0 0 1 ∷ [])
+
+-- a tick of one worker, so many times, as calls and as a log
+one-works : ℕ → List Call
+one-works n = flatMap (λ i. ticks (0 ∷ []) ∷ []) (below n)
+
+one-logged : ℕ → List ℕ
+one-logged n = flatMap (λ i. 0x81 ∷ 0 ∷ []) (below n)
+
+-- the workers' deques, then the muggable ones, then the ticks that each task has left, after calls
+ticks-left : List ℕ → List Call → List ℕ
+ticks-left bytes calls = placed bytes calls ++ after-calls bytes calls .execution .left
+
+-- request U9: "Plan form 2 has the same header and 32 bits a piece: the three old fields and 8 bits of ticks, 1 to 255."
+form-rows : List Row
+form-rows =
+    -- the fields of the second piece of form 2, and of the second of form 1
+    row (fields-of (0x20 ∷ 0 ∷ 0 ∷ 0 ∷ 1 ∷ 0x11 ∷ 0x22 ∷ 0x33 ∷ 0x44 ∷ 0xb5 ∷ 0x6a ∷ 0x5c ∷ 0xff ∷ []) 1) (2 ∷ 1709 ∷ 604 ∷ 255 ∷ [])
+    ∷ row (fields-of (0x10 ∷ 0 ∷ 0 ∷ 0 ∷ 1 ∷ 0x11 ∷ 0x22 ∷ 0x33 ∷ 0xb5 ∷ 0x6a ∷ 0x5c ∷ 0xff ∷ []) 1) (2 ∷ 1709 ∷ 604 ∷ 1 ∷ [])
+    -- the header is the same
+    ∷ row (header-fields (lasting-diamond 9)) (2 ∷ 2 ∷ 1 ∷ 9 ∷ 4 ∷ [])
+    ∷ row (refusal (lasting-diamond 2)) (0 ∷ [])
+    -- "question 6 then reads 5 + 4 × N": a byte too few and too many; form 1's pieces under form 2, and form 2's under form 1
+    ∷ row (flatMap refusal (take 20 (lasting-diamond 2) ∷ (lasting-diamond 2 ++ (0 ∷ [])) ∷ (0x25 ∷ drop 1 plan-a)
+    ∷ (0x14 ∷ drop 1 (lasting-diamond 2)) ∷ [])) (6 ∷ 6 ∷ 6 ∷ 6 ∷ [])
+    -- 7 and 8 of a piece come before 28 of it, and 28 before 7 of the next
+    ∷ row (flatMap (λ first. refusal (after-first first)) (lasting 3 1 0 0 ∷ lasting 1 0 0 0 ∷ lasting 1 1 0 0 ∷ lasting 1 1 0 1 ∷ []))
+    (7 ∷ 8 ∷ 28 ∷ 7 ∷ [])
+    -- 28 of the last piece comes before 9; 0 ticks of the only piece; 1 and 255 ticks are fine
+    ∷ row (refusal (form-bytes 2 2 80 2 (lasting 1 2 0 1 ∷ lasting 1 2 0 1 ∷ lasting 0 0 0 0 ∷ []))) (28 ∷ [])
+    ∷ row (flatMap (λ duration. refusal (one-lasting 2 duration)) (0 ∷ 1 ∷ 255 ∷ [])) (28 ∷ 0 ∷ 0 ∷ [])
+    ∷ []
+
+-- "A front piece stays until its ticks are done; its followers come after the last one."
+lasting-rows : List Row
+lasting-rows =
+    row (ticks-left (lasting-diamond 9) (grants 1 ∷ one-works 1)) (1 ∷ 0 ∷ 1 ∷ 3 ∷ 1 ∷ 2 ∷ [])
+    ∷ row (ticks-left (lasting-diamond 9) (grants 1 ∷ one-works 2)) (2 ∷ 1 ∷ 2 ∷ 0 ∷ 3 ∷ 1 ∷ 2 ∷ [])
+    ∷ row (ticks-left (lasting-diamond 9) (grants 1 ∷ one-works 5)) (1 ∷ 2 ∷ 0 ∷ 0 ∷ 1 ∷ 2 ∷ [])
+    -- "worked" means completed, and W counts work ticks, in the count line
+    ∷ row (shown (lasting-diamond 9) (1 ∷ one-logged 1)) (1 ∷ 0 ∷ 4 ∷ 1 ∷ 1 ∷ 1 ∷ 0 ∷ 0 ∷ 0 ∷ 0 ∷ [])
+    ∷ row (shown (lasting-diamond 9) (1 ∷ one-logged 3)) (1 ∷ 1 ∷ 4 ∷ 1 ∷ 1 ∷ 3 ∷ 0 ∷ 0 ∷ 0 ∷ 0 ∷ [])
+    -- finished with the last tick of the last piece, and not before; then 11
+    ∷ row (shown (lasting-diamond 9) (1 ∷ one-logged 7)) (1 ∷ 3 ∷ 4 ∷ 1 ∷ 1 ∷ 7 ∷ 0 ∷ 0 ∷ 0 ∷ 0 ∷ [])
+    ∷ row (shown (lasting-diamond 9) (1 ∷ one-logged 9)) (3 ∷ 4 ∷ 4 ∷ 1 ∷ 1 ∷ 8 ∷ 0 ∷ 0 ∷ 0 ∷ 1 ∷ [])
+    -- the order has a piece once for each tick; the ticks done of each
+    ∷ row (work-order (run (plan-of (lasting-diamond 9)) (grants 1 ∷ one-works 8))) (0 ∷ 0 ∷ 1 ∷ 1 ∷ 1 ∷ 2 ∷ 3 ∷ 3 ∷ [])
+    ∷ row (map (ticks-done (run (plan-of (lasting-diamond 9)) (grants 1 ∷ one-works 4))) (below 5)) (2 ∷ 2 ∷ 0 ∷ 0 ∷ 0 ∷ [])
+    -- "When its worker is withdrawn, or its line is picked up, the ticks done so far are kept"; a thief leaves the begun piece
+    ∷ row (ticks-left (lasting-diamond 1) (grants 1 ∷ one-works 1 ++ (grants 0 ∷ ticks [] ∷ []))) (1 ∷ 0 ∷ 1 ∷ 3 ∷ 1 ∷ 2 ∷ [])
+    ∷ row (ticks-left (lasting-diamond 1) (grants 1 ∷ one-works 1 ++ (grants 0 ∷ ticks [] ∷ grants 1 ∷ one-works 1)))
+    (1 ∷ 0 ∷ 1 ∷ 3 ∷ 1 ∷ 2 ∷ [])
+    ∷ row (ticks-left (lasting-diamond 1) (grants 1 ∷ one-works 1 ++ (grants 0 ∷ ticks [] ∷ grants 1 ∷ one-works 1 ++ (grants 1 ∷ one-works 1))))
+    (2 ∷ 1 ∷ 2 ∷ 0 ∷ 3 ∷ 1 ∷ 2 ∷ [])
+    ∷ row (ticks-left (lasting-diamond 3) (grants 1 ∷ one-works 3 ++ (grants 2 ∷ ticks (0 ∷ 0 ∷ []) ∷ [])))
+    (1 ∷ 1 ∷ 1 ∷ 2 ∷ 0 ∷ 1 ∷ 1 ∷ 2 ∷ [])
+    -- a round is judged by its work ticks: two of two are efficient at 100 percent, although no piece is worked
+    ∷ row (history-shown (one-lasting 2 5) (grants 1 ∷ one-works 2)) (1 ∷ 1 ∷ 1 ∷ 1 ∷ 0 ∷ 0 ∷ [])
+    ∷ row (shown (one-lasting 2 5) (1 ∷ one-logged 2)) (1 ∷ 0 ∷ 1 ∷ 2 ∷ 1 ∷ 2 ∷ 0 ∷ 0 ∷ 0 ∷ 0 ∷ [])
+    -- a piece of 255 ticks
+    ∷ row (shown (one-lasting 999 255) (1 ∷ one-logged 254)) (1 ∷ 0 ∷ 1 ∷ 1 ∷ 1 ∷ 254 ∷ 0 ∷ 0 ∷ 0 ∷ 0 ∷ [])
+    ∷ row (shown (one-lasting 999 255) (1 ∷ one-logged 256)) (3 ∷ 1 ∷ 1 ∷ 1 ∷ 1 ∷ 255 ∷ 0 ∷ 0 ∷ 0 ∷ 1 ∷ [])
     ∷ []
 
 -- grants
@@ -567,23 +652,24 @@ program-rows =
 
 our-rows : List Row
 our-rows =
-    plan-rows ++ grant-rows ++ withdrawal-rows ++ tick-rows ++ steal-rows ++ last-tick-rows ++ quantum-rows ++ log-rows ++ program-rows
+    plan-rows ++ form-rows ++ lasting-rows ++ grant-rows ++ withdrawal-rows ++ tick-rows ++ steal-rows ++ last-tick-rows ++ quantum-rows
+    ++ log-rows ++ program-rows
 
 pub rows : List Row
 rows = document-rows ++ our-rows
 
 -- every row holds
 pub table : failing 0 rows ≡ []
-unfolding same row-holds failing task plan-bytes diamond one-task seven easy-seven wide-seven ten thirteen four-lines link chain refusal
-    after-calls quantum-kept shown-from shown answered listed placed labelled document-rows seven-tasks header-fields task-fields fresh-with
+unfolding same row-holds failing task lasting form-bytes plan-bytes diamond one-task seven easy-seven wide-seven ten thirteen four-lines link chain refusal
+    after-calls quantum-kept shown-from shown answered listed placed labelled document-rows seven-tasks header-fields fields-of task-fields fresh-with
     grant-number quantum-shown current-shown history-shown shown-twice half-of-five three-thieves two-withdrawn four-at-work two-grants
-    three-at-work then-three counted sums statuses-from statuses plan-rows grant-rows withdrawal-rows tick-rows steal-rows last-tick-rows
-    quantum-rows log-rows program-rows our-rows rows below every keep member count-set all-set first-no flatMap Plan.predecessors
-    Plan.number Plan.header Plan.task-bits Plan.successor-fields Plan.plan-of Plan.fields-ok Plan.two-differ Plan.targets-ok
+    three-at-work then-three counted sums statuses-from statuses lasting-diamond one-lasting after-first one-works one-logged ticks-left plan-rows form-rows lasting-rows grant-rows withdrawal-rows tick-rows steal-rows last-tick-rows
+    quantum-rows log-rows program-rows our-rows rows below every keep member count-set all-set occurrences zeros first-no flatMap Plan.predecessors
+    Plan.number Plan.header Plan.forms Plan.is-form Plan.form-with Plan.form-of Plan.task-bits Plan.duration-field Plan.successor-fields Plan.plan-of Plan.fields-ok Plan.two-differ Plan.targets-ok
     Plan.task-questions Plan.all-preceded Plan.one-exit Plan.header-questions Plan.graph-questions Plan.plan-questions Plan.plan-answer
     Machine.finished Machine.fresh Machine.grant-questions Machine.kept-deques Machine.withdrawn-deques Machine.first-task-placed
     Machine.grant Machine.tick-questions Machine.cycle-of Machine.ready Machine.released Machine.stolen-count Machine.left-by-steal
-    Machine.taken-by-steal Machine.work-cycle Machine.mug-cycle Machine.successful-steal Machine.failed-steal Machine.cycle Machine.turn-of
+    Machine.taken-by-steal Machine.worked-deque Machine.work-cycle Machine.mug-cycle Machine.successful-steal Machine.failed-steal Machine.cycle Machine.turn-of
     Machine.turn Machine.cycles Machine.cycles-made Machine.ticked Machine.efficient Machine.satisfied Machine.next-desire Machine.closes
     Machine.closed Machine.tick Machine.top-desires Machine.call-answer Machine.step Machine.status History.beginning History.history-grant
     History.history-tick History.history-step History.run-from History.run History.tasks-in WholeTicks.accepted-calls

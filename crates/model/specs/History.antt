@@ -2,6 +2,7 @@
 use mathlib.Core.Bool.{Bool, cond}
 use mathlib.Core.List.{List, [], _∷_, _++_}
 use Prim.Native.Nat.{ℕ}
+use Rattle.model.specs.Tests.{occurrences}
 use Rattle.model.specs.Questions.{by-answer}
 use Rattle.model.specs.Plan.{Plan}
 use Rattle.model.specs.Machine.{State, fresh, grant, tick, ticked, closes, efficient, satisfied}
@@ -87,7 +88,7 @@ work-count h = h .state .execution .counts .works .work
 abbrev pub mug-count : History → ℕ
 mug-count h = h .state .execution .counts .mugs .mug
 
--- the tasks that the cycles worked, in the order in which they were worked
+-- the tasks of the work ticks among the cycles, in their order: a task stands there once for each of its ticks that is done
 unfoldable pub tasks-in : List Cycle → List ℕ
 tasks-in [] = []
 tasks-in (works-on t ∷ made) = t ∷ tasks-in made
@@ -97,3 +98,7 @@ tasks-in (steals-nothing ∷ made) = tasks-in made
 
 abbrev pub work-order : History → List ℕ
 work-order h = tasks-in (h .made)
+
+-- how many ticks of the task t are done
+abbrev pub ticks-done : History → ℕ → ℕ
+ticks-done h t = occurrences t (work-order h)

@@ -4,9 +4,9 @@ use mathlib.Core.List.{List, [], _∷_, _++_, tail, reverse}
 use Prim.Native.Nat.{ℕ, suc, _+_, _-_, _*_, _/_, _^_}
 use lib.Dec.{leb, ltb, eqb}
 use lib.ListN.{length, getD, take, drop, set, replicate}
-use Rattle.model.specs.Tests.{every, keep, is-empty, count-set, all-set}
+use Rattle.model.specs.Tests.{every, keep, is-empty, count-set, all-set, zeros}
 use Rattle.model.specs.Questions.{Question, ask, Answer, first-no, by-answer}
-use Rattle.model.specs.Plan.{Plan, Terms, Graph, tasks, successors-of, predecessors}
+use Rattle.model.specs.Plan.{Plan, Terms, Graph, successors-of, predecessors}
 
 -- ---- what a job is
 
@@ -29,7 +29,7 @@ pub record Counts : Type 0 where
 
 -- what the workers' cycles move
 pub record Execution : Type 0 where
-  pub worked : List Bool  -- of each task: it is worked
+  pub left : List ℕ  -- of each task: the work ticks that it has left
   pub deques : List (List ℕ)  -- of each granted worker its deque (line) of ready tasks, front first
   pub muggable : List (List ℕ)  -- the muggable deques (orphans), oldest first
   pub counts : Counts
@@ -53,9 +53,13 @@ allotment s = length (s .execution .deques)
 abbrev pub deque-of : Execution → ℕ → List ℕ
 deque-of e w = getD (e .deques) w []
 
+-- of each task: it is worked. Request U9: "of a piece, "worked" means completed", that is, no tick of it is left
+abbrev pub worked : Execution → List Bool
+worked e = zeros (e .left)
+
 -- "finished": all N are worked
 unfoldable pub finished : Execution → Bool
-finished e = all-set (e .worked)
+finished e = all-set (worked e)
 
 abbrev pub no-counts : Counts
 no-counts =
@@ -71,7 +75,7 @@ no-counts =
 unfoldable pub fresh : Plan → State
 fresh plan =
     record {
-      execution = record { worked = replicate (tasks (plan .graph)) false; deques = []; muggable = []; counts = no-counts };
+      execution = record { left = plan .durations; deques = []; muggable = []; counts = no-counts };
       started = false;
       desire = 1;
       quantum = idle;
@@ -130,7 +134,7 @@ grant g s =
     record {
       execution =
           record {
-            worked = s .execution .worked;
+            left = s .execution .left;
             deques = first-task-placed (s .started) (kept-deques g (s .execution .deques));
             muggable = s .execution .muggable ++ withdrawn-deques g (s .execution .deques);
             counts = with-usage-0 (s .execution .counts);
@@ -176,9 +180,9 @@ cycle-of w choice e = decided (deque-of e w) (e .muggable) choice (deque-of e ch
 unfoldable pub ready : Graph → List Bool → ℕ → Bool
 ready graph worked t = every (λ p. getD worked p false) (predecessors graph t)
 
--- a work tick completes its task
-abbrev pub completed : ℕ → List Bool → List Bool
-completed t worked = set worked t true
+-- a work tick takes one tick off its task
+abbrev pub one-tick-less : ℕ → List ℕ → List ℕ
+one-tick-less t left = set left t (getD left t 0 - 1)
 
 -- "its followers that became ready", in the order of their fields
 unfoldable pub released : Graph → List Bool → ℕ → List ℕ
@@ -227,12 +231,17 @@ counted-steal success c =
       usage = c .usage;
     }
 
--- "The front piece is worked and leaves. Of its followers that became ready, the second goes to the front, then the first before it."
+-- the deque of a worker that did a work tick at its front task t, where so many ticks are left afterwards: not "The front piece is worked and
+-- leaves" at once, as in document 01. Request U9: "A front piece stays until its ticks are done; its followers come after the last one."
+-- Then, as in document 01, it leaves, and "Of its followers that became ready, the second goes to the front, then the first before it."
+unfoldable pub worked-deque : Graph → List ℕ → ℕ → List ℕ → List ℕ
+worked-deque graph left t deque = cond (eqb (getD left t 0) 0) (released graph (zeros left) t ++ tail deque) deque
+
 unfoldable pub work-cycle : Graph → ℕ → ℕ → Execution → Execution
 work-cycle graph w t e =
     record {
-      worked = completed t (e .worked);
-      deques = set (e .deques) w (released graph (completed t (e .worked)) t ++ tail (deque-of e w));
+      left = one-tick-less t (e .left);
+      deques = set (e .deques) w (worked-deque graph (one-tick-less t (e .left)) t (deque-of e w));
       muggable = e .muggable;
       counts = counted-work (e .counts);
     }
@@ -241,7 +250,7 @@ work-cycle graph w t e =
 unfoldable pub mug-cycle : ℕ → List ℕ → Execution → Execution
 mug-cycle w oldest e =
     record {
-      worked = e .worked;
+      left = e .left;
       deques = set (e .deques) w oldest;
       muggable = tail (e .muggable);
       counts = counted-mug (e .counts);
@@ -251,7 +260,7 @@ mug-cycle w oldest e =
 unfoldable pub successful-steal : ℕ → ℕ → Execution → Execution
 successful-steal w victim e =
     record {
-      worked = e .worked;
+      left = e .left;
       deques = set (set (e .deques) victim (left-by-steal (deque-of e victim))) w (taken-by-steal (deque-of e victim));
       muggable = e .muggable;
       counts = counted-steal 1 (e .counts);
@@ -260,7 +269,7 @@ successful-steal w victim e =
 -- "If not, nothing moves."
 unfoldable pub failed-steal : Execution → Execution
 failed-steal e =
-    record { worked = e .worked; deques = e .deques; muggable = e .muggable; counts = counted-steal 0 (e .counts) }
+    record { left = e .left; deques = e .deques; muggable = e .muggable; counts = counted-steal 0 (e .counts) }
 
 abbrev pub performed : Graph → ℕ → Cycle → Execution → Execution
 performed graph w (works-on t) e = work-cycle graph w t e
@@ -398,7 +407,7 @@ step plan call s = by-answer (call-answer call s) (moved plan call s) s
 
 -- how many tasks are worked
 abbrev pub tasks-worked : State → ℕ
-tasks-worked s = count-set (s .execution .worked)
+tasks-worked s = count-set (worked (s .execution))
 
 -- "Status: 3 finished; else 0 if nothing above 0 was ever granted; else 2, held, if the last granted count is 0; else 1, running."
 unfoldable pub status : State → ℕ

@@ -1,5 +1,5 @@
 -- Document 01, "The plan's bits" and "Questions": plan bytes, and the plan that they give.
-use mathlib.Core.Bool.{Bool, true, false, not, _&&_, Bool·beq}
+use mathlib.Core.Bool.{Bool, true, false, cond, not, _&&_, Bool·beq}
 use mathlib.Core.List.{List, [], _∷_, _++_, map, flatMap}
 use Prim.Native.Nat.{ℕ, zero, suc, _+_, _*_, _/_, _%_, _^_}
 use lib.Dec.{leb, ltb, eqb}
@@ -23,6 +23,7 @@ pub record Graph : Type 0 where
 pub record Plan : Type 0 where
   pub terms : Terms
   pub graph : Graph
+  pub durations : List ℕ  -- of each task, by its number: the work ticks that it takes
 
 -- N, the number of tasks
 abbrev pub tasks : Graph → ℕ
@@ -31,6 +32,10 @@ tasks graph = length (graph .successors)
 -- the successors (followers) of the task t
 abbrev pub successors-of : Graph → ℕ → List ℕ
 successors-of graph t = getD (graph .successors) t []
+
+-- the work ticks that the task t takes; what is no task takes none
+abbrev pub duration-of : Plan → ℕ → ℕ
+duration-of plan t = getD (plan .durations) t 0
 
 -- "A piece is before its own followers and before no other piece": the predecessors of the task t
 unfoldable pub predecessors : Graph → ℕ → List ℕ
@@ -45,6 +50,10 @@ most-tasks = 1024
 -- the largest L of 16 bits
 abbrev pub longest-quantum : ℕ
 longest-quantum = 65535
+
+-- the most ticks of 8 bits
+abbrev pub longest-duration : ℕ
+longest-duration = 255
 
 -- the number that n bytes make, from the one at a place on, the first byte the most significant
 unfoldable pub number : List ℕ → ℕ → ℕ → ℕ
@@ -75,18 +84,51 @@ quantum-length-field bytes = field 16 10 (header bytes)
 abbrev pub task-count : List ℕ → ℕ
 task-count bytes = field 10 0 (header bytes) + 1
 
--- "Then 24 bits a piece": three fields, most significant first
+-- a plan form: its number, and how the bits of a task are laid out
+pub record Form : Type 0 where
+  pub code : ℕ  -- what the header's form field holds
+  pub task-bytes : ℕ  -- the bytes of a task
+  pub duration-bits : ℕ  -- its last so many bits are its ticks; where they are none every task lasts one tick
+
+-- the forms. Document 01: "Then 24 bits a piece". Request U9: "Plan form 2 has the same header and 32 bits a piece: the three old fields and
+-- 8 bits of ticks"
+unfoldable pub forms : List Form
+forms =
+    record { code = 1; task-bytes = 3; duration-bits = 0 }
+    ∷ record { code = 2; task-bytes = 4; duration-bits = 8 }
+    ∷ []
+
+-- a form of that number is among them
+unfoldable pub is-form : ℕ → List Form → Bool
+is-form code [] = false
+is-form code (form ∷ others) = cond (eqb code (form .code)) true (is-form code others)
+
+-- the form of that number; where there is none question 2 says no, and nothing else of the bytes is looked at
+unfoldable pub form-with : ℕ → List Form → Form
+form-with code [] = record { code = 0; task-bytes = 0; duration-bits = 0 }
+form-with code (form ∷ others) = cond (eqb code (form .code)) form (form-with code others)
+
+-- the form of the bytes
+unfoldable pub form-of : List ℕ → Form
+form-of bytes = form-with (form-field bytes) forms
+
+-- the fields of a task, most significant first: successor count 2, first successor 11, second successor 11, ticks
 unfoldable pub task-bits : List ℕ → ℕ → ℕ
-task-bits bytes t = number bytes (5 + 3 * t) 3
+task-bits bytes t = number bytes (5 + form-of bytes .task-bytes * t) (form-of bytes .task-bytes)
 
 abbrev pub count-field : List ℕ → ℕ → ℕ
-count-field bytes t = field 2 22 (task-bits bytes t)
+count-field bytes t = field 2 (22 + form-of bytes .duration-bits) (task-bits bytes t)
 
 abbrev pub first-field : List ℕ → ℕ → ℕ
-first-field bytes t = field 11 11 (task-bits bytes t)
+first-field bytes t = field 11 (11 + form-of bytes .duration-bits) (task-bits bytes t)
 
 abbrev pub second-field : List ℕ → ℕ → ℕ
-second-field bytes t = field 11 0 (task-bits bytes t)
+second-field bytes t = field 11 (form-of bytes .duration-bits) (task-bits bytes t)
+
+-- the ticks that a task takes: its last field, and one where its form has no such field
+unfoldable pub duration-field : List ℕ → ℕ → ℕ
+duration-field bytes t =
+    cond (eqb (form-of bytes .duration-bits) 0) 1 (field (form-of bytes .duration-bits) 0 (task-bits bytes t))
 
 -- the fields that a successor count uses: none, the first, or both
 abbrev pub used-fields : ℕ → ℕ → ℕ → List ℕ
@@ -108,6 +150,7 @@ plan-of bytes =
             quantum-length = quantum-length-field bytes;
           };
       graph = record { successors = map (successor-fields bytes) (below (task-count bytes)) };
+      durations = map (duration-field bytes) (below (task-count bytes));
     }
 
 -- ---- the questions
@@ -129,11 +172,13 @@ two-differ (x ∷ (y ∷ rest)) = not (eqb x y)
 unfoldable pub targets-ok : ℕ → ℕ → List ℕ → Bool
 targets-ok n t successors = every (λ s. ltb t s && ltb s n) successors && two-differ successors
 
--- both questions of one piece; those of a piece come before those of the next
+-- the questions of one piece; those of a piece come before those of the next. Request U9: "A piece of 0 ticks is refused with 28, after 8
+-- for the same piece."
 unfoldable pub task-questions : List ℕ → ℕ → List Question
 task-questions bytes t =
     ask (fields-ok (count-field bytes t) (first-field bytes t) (second-field bytes t)) 7
     ∷ ask (targets-ok (task-count bytes) t (successor-fields bytes t)) 8
+    ∷ ask (leb 1 (duration-field bytes t)) 28
     ∷ []
 
 -- 9: "Has each piece from 1 up one or two pieces before it?"
@@ -145,14 +190,15 @@ all-preceded graph =
 unfoldable pub one-exit : Graph → Bool
 one-exit graph = every (λ t. Bool·beq (is-empty (successors-of graph t)) (eqb (t + 1) (tasks graph))) (below (tasks graph))
 
+-- 2 has "Is the form 1?" in document 01. Request U9: "Question 2 now admits form 2, and question 6 then reads 5 + 4 × N."
 unfoldable pub header-questions : List ℕ → List Question
 header-questions bytes =
     ask (leb 5 (length bytes)) 1
-    ∷ ask (eqb (form-field bytes) 1) 2
+    ∷ ask (is-form (form-field bytes) forms) 2
     ∷ ask (leb 2 (responsiveness-field bytes)) 3
     ∷ ask (leb 1 (utilization-field bytes) && leb (utilization-field bytes) 100) 4
     ∷ ask (leb 1 (quantum-length-field bytes)) 5
-    ∷ ask (eqb (length bytes) (5 + 3 * task-count bytes)) 6
+    ∷ ask (eqb (length bytes) (5 + form-of bytes .task-bytes * task-count bytes)) 6
     ∷ []
 
 unfoldable pub graph-questions : Graph → List Question

@@ -4,11 +4,12 @@ use mathlib.Core.Path.{_≡_}
 use mathlib.Core.Bool.{true, false}
 use mathlib.Core.Logic.{_↔_}
 use mathlib.Core.List.{List, [], _∷_, _++_, List·Memᴰ}
-use Prim.Native.Nat.{ℕ, _+_, _*_, _-_, _≤_, _<_}
-use lib.ListN.{length, getD}
+use Prim.Native.Nat.{ℕ, suc, _+_, _*_, _-_, _≤_, _<_}
+use lib.ListN.{length, getD, take}
+use Rattle.model.specs.Tests.{occurrences}
 use Rattle.model.specs.Questions.{accepted}
-use Rattle.model.specs.Plan.{Plan, Terms, Graph, tasks, successors-of, predecessors}
-use Rattle.model.specs.Machine.{State, Call, ticks, call-answer, allotment, status, desire-at, most-workers}
+use Rattle.model.specs.Plan.{Plan, Terms, Graph, tasks, successors-of, predecessors, duration-of}
+use Rattle.model.specs.Machine.{worked, State, Call, ticks, call-answer, allotment, status, desire-at, most-workers}
 use Rattle.model.specs.Machine.{ticked, closes, efficient-now, satisfied-now, next-desire, top-desire}
 use Rattle.model.specs.History.{ClosedQuantum, History, run, history-step, work-count, mug-count, work-order}
 
@@ -36,6 +37,9 @@ pub record SoundGraph (graph : Graph) : Type 0 where
 pub record SoundPlan (plan : Plan) : Type 0 where
   pub terms : SoundTerms (plan .terms)
   pub graph : SoundGraph (plan .graph)
+  -- every task lasts a tick or more
+  pub each-lasts : length (plan .durations) ≡ tasks (plan .graph)
+  pub lasting : (t : ℕ) → t < tasks (plan .graph) → 1 ≤ duration-of plan t
 
 -- ---- demand 3
 
@@ -78,17 +82,31 @@ MugBound plan h =
 
 -- ---- its companions
 
--- "Each piece is worked at most once, after all before it"
+-- of the work ticks in their order, the one at the place i completes its task: with it all ticks of the task are done
+abbrev pub Completes : Plan → List ℕ → ℕ → Type 0
+Completes plan order i = (i < length order) × (occurrences (getD order i 0) (take (suc i) order) ≡ duration-of plan (getD order i 0))
+
+-- before the place i all ticks of the task p are done
+abbrev pub CompletedBefore : Plan → List ℕ → ℕ → ℕ → Type 0
+CompletedBefore plan order i p = occurrences p (take i order) ≡ duration-of plan p
+
+-- "Each piece is worked at most once, after all before it", where worked means completed (request U9), and no tick of it is done before
 pub record OnceAndInOrder (plan : Plan) (h : History) : Type 0 where
-  pub once : (i j : ℕ) → i < length (work-order h) → j < length (work-order h) → getD (work-order h) i 0 ≡ getD (work-order h) j 0 → i ≡ j
+  -- no tick of a task comes after the one that completes it
+  pub none-after : (i j : ℕ) → Completes plan (work-order h) i → j < length (work-order h) →
+      getD (work-order h) j 0 ≡ getD (work-order h) i 0 → j ≤ i
+  pub once : (i j : ℕ) → Completes plan (work-order h) i → Completes plan (work-order h) j →
+      getD (work-order h) i 0 ≡ getD (work-order h) j 0 → i ≡ j
+  -- before any tick of a task each of its predecessors is completed
   pub in-order : (i p : ℕ) → i < length (work-order h) → List·Memᴰ p (predecessors (plan .graph) (getD (work-order h) i 0)) →
-      (j : ℕ) × (j < i) × (getD (work-order h) j 0 ≡ p)
-  -- the tasks that the state shows as worked are those of the order
-  pub marked : (t : ℕ) → (getD (h .state .execution .worked) t false ≡ true) ↔ List·Memᴰ t (work-order h)
+      CompletedBefore plan (work-order h) i p
+  -- the tasks that the state shows as worked are those that the order completes
+  pub marked : (t : ℕ) → (getD (worked (h .state .execution)) t false ≡ true)
+      ↔ ((i : ℕ) × Completes plan (work-order h) i × (getD (work-order h) i 0 ≡ t))
 
 -- "finished is shown when all pieces are worked and never otherwise"
 abbrev pub FinishedExactly : Plan → History → Type 0
-FinishedExactly plan h = (status (h .state) ≡ 3) ↔ ((t : ℕ) → t < tasks (plan .graph) → getD (h .state .execution .worked) t false ≡ true)
+FinishedExactly plan h = (status (h .state) ≡ 3) ↔ ((t : ℕ) → t < tasks (plan .graph) → getD (worked (h .state .execution)) t false ≡ true)
 
 -- "While a job is unfinished, each tick with a worker granted does at least one work or mug tick."
 abbrev pub Progress : Plan → History → Type 0

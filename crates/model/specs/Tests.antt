@@ -41,3 +41,18 @@ count-set (false ∷ flags) = count-set flags
 unfoldable pub all-set : List Bool → Bool
 all-set [] = true
 all-set (flag ∷ flags) = flag && all-set flags
+
+-- how often a number stands in a list
+unfoldable pub occurrences : ℕ → List ℕ → ℕ
+occurrences n [] = 0
+occurrences n (x ∷ xs) = cond (eqb n x) 1 0 + occurrences n xs
+
+-- the sum of the numbers
+unfoldable pub total : List ℕ → ℕ
+total [] = 0
+total (n ∷ ns) = n + total ns
+
+-- of each number: it is 0
+unfoldable pub zeros : List ℕ → List Bool
+zeros [] = []
+zeros (n ∷ ns) = eqb n 0 ∷ zeros ns

@@ -14,10 +14,10 @@ pub record Thief (e : Execution) (w : ℕ) : Type 0 where
   pub empty : deque-of e w ≡ []
   pub none-waits : e .muggable ≡ []
 
--- a steal tick counts itself, with 1 success or 0, and no piece is worked, no orphan moves, no worker comes or goes
+-- a steal tick counts itself, with 1 success or 0, and no tick of a piece is done or lost, no orphan moves, no worker comes or goes
 pub record StealTick (success : ℕ) (before after : Execution) : Type 0 where
   pub counted : after .counts ≡ counted-steal success (before .counts)
-  pub same-worked : after .worked ≡ before .worked
+  pub same-left : after .left ≡ before .left
   pub same-muggable : after .muggable ≡ before .muggable
   pub same-workers : length (after .deques) ≡ length (before .deques)
 

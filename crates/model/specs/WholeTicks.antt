@@ -44,7 +44,7 @@ after-workers plan s choices w = cycles (plan .graph) 0 (take w choices) (s .exe
 abbrev pub with-vain-steals : ℕ → Execution → Execution
 with-vain-steals n e =
     record {
-      worked = e .worked;
+      left = e .left;
       deques = e .deques;
       muggable = e .muggable;
       counts =
