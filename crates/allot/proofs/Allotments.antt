@@ -95,7 +95,7 @@ module _ {memory words : List ℕ} {g : ℕ} (w : Grantable memory words g) wher
         shown = λ s e st.
             rw is
             (ap (view p′) stored
-            ∙ rw (same .same-next, same .same-pending, e, st, deques (p .next), ring (p .next)) refl);
+            ∙ rw (same .same-next, same .same-spans, e, st, deques (p .next), ring (p .next)) refl);
         same-parts = rw is same;
         places = rw is places;
         numbers = stored ∙ ap (λ (n : Numbers). numbers-after m g (n .waiting)) (sym stored);

@@ -17,10 +17,10 @@ use Rattle.allot.specs.Grants.{Joined, joining-deque, Joinable}
 -- ---- only the deques' ends move
 
 pub no-move : {p : Parts} → SameButEnds p p
-no-move = record { same-first = refl; same-second = refl; same-next = refl; same-pending = refl }
+no-move = record { same-first = refl; same-second = refl; same-next = refl; same-pending = refl; same-spans = refl }
 
 pub ends-moved : {p : Parts} {ends : List ℕ} → SameButEnds p (with-ends p ends)
-ends-moved = record { same-first = refl; same-second = refl; same-next = refl; same-pending = refl }
+ends-moved = record { same-first = refl; same-second = refl; same-next = refl; same-pending = refl; same-spans = refl }
 
 pub moved-then : {p q r : Parts} → SameButEnds p q → SameButEnds q r → SameButEnds p r
 moved-then a b =
@@ -29,6 +29,7 @@ moved-then a b =
       same-second = b .same-second ∙ a .same-second;
       same-next = b .same-next ∙ a .same-next;
       same-pending = b .same-pending ∙ a .same-pending;
+      same-spans = b .same-spans ∙ a .same-spans;
     }
 
 -- ---- empty deques, and others

@@ -9,7 +9,7 @@ use Rattle.model.specs.Questions.{first-no}
 use Rattle.model.specs.Machine.{no-quantum-open, grant-questions, tick-questions, grants, ticks, call-answer}
 use Rattle.memory.specs.declared.Job.{Job}
 use Rattle.memory.specs.Words.{open-in, ticks-in}
-use Rattle.memory.specs.View.{worked-view}
+use Rattle.memory.specs.Sound.{worked-in}
 use Rattle.memory.specs.Jobs.{job-parts, job-numbers, quantum-view, job-state}
 use Rattle.memory.proofs.Views.{finished-shown, workers-shown}
 use Rattle.call_questions.specs.Asked.{grant-asked, tick-asked}
@@ -23,7 +23,7 @@ not-open-shown : (b : Bool) (k : ℕ) → not (no-quantum-open (quantum-view b k
 not-open-shown true k = refl
 not-open-shown false k = refl
 
-module _ (job : Job) (done-right : job-numbers job .done ≡ count-set (worked-view (job-parts job .pending) (job-numbers job .tasks))) where
+module _ (job : Job) (done-right : job-numbers job .done ≡ count-set (worked-in (job-parts job) (job-numbers job))) where
   pub grant-asking : (g : ℕ) → call-answer (grants g) (job-state job) ≡ first-no (grant-asked (job .words) g)
   unfolding call-answer grant-questions grant-asked job-state first-no
   grant-asking g =

@@ -15,7 +15,8 @@ use Rattle.model.specs.Machine.{finished, closes, closed}
 use Rattle.quantum.specs.Closing.{Closed}
 use Rattle.memory.specs.Parts.{parts}
 use Rattle.memory.specs.Words.{word, word-count, numbers-in, open-in}
-use Rattle.memory.specs.View.{view, worked-view}
+use Rattle.memory.specs.View.{view}
+use Rattle.memory.specs.Sound.{worked-in}
 use Rattle.memory.specs.Jobs.{lent, job-plan, job-state}
 use Rattle.memory.proofs.Views.{workers-shown, done-at-most, finished-shown}
 use Rattle.memory.proofs.Words.{row-of, by-words}
@@ -33,13 +34,13 @@ counted-other words place ne = getD-set-other words 16 place (word words 16 + 1)
 
 -- where the quantum does not end, the tick is counted and nothing else is written
 stays-open : (words : List ℕ) → length words ≡ word-count → open-in words ≡ true → ((memory : List ℕ) →
-    numbers-in words .done ≡ count-set (worked-view (parts memory .pending) (numbers-in words .tasks)) →
+    numbers-in words .done ≡ count-set (worked-in (parts memory) (numbers-in words)) →
     closes (job-plan (lent memory words)) (tick-counted (lent memory words)) ≡ false) → TickEnded words (counted-words words)
 unfolding job-state quantum-ended job-plan
 stays-open =
     by-words
     (λ (l : List ℕ). open-in l ≡ true → ((memory : List ℕ) →
-    numbers-in l .done ≡ count-set (worked-view (parts memory .pending) (numbers-in l .tasks)) →
+    numbers-in l .done ≡ count-set (worked-in (parts memory) (numbers-in l)) →
     closes (job-plan (lent memory l)) (tick-counted (lent memory l)) ≡ false) → TickEnded l (counted-words l))
     (λ w is-open unclosed.
     record {

@@ -11,7 +11,8 @@ use Rattle.model.specs.Machine.{State, most-workers, quantum-limit, opened, clo
 use Rattle.memory.specs.declared.Job.{Job}
 use Rattle.memory.specs.Parts.{parts}
 use Rattle.memory.specs.Words.{word-count, numbers-in, terms-in, desire-in, started-in, open-in, ticks-in, begun-in}
-use Rattle.memory.specs.View.{view, worked-view}
+use Rattle.memory.specs.View.{view}
+use Rattle.memory.specs.Sound.{worked-in}
 use Rattle.memory.specs.Jobs.{lent, job-parts, job-numbers, job-plan, job-state}
 use Rattle.quantum.specs.Closing.{Closable}
 
@@ -73,6 +74,6 @@ pub record Countable (words : List ℕ) : Type 0 where
 
 -- the tick is counted and, where it was the quantum's last, the quantum closed; the numbers are those after the tick's cycles
 pub record TickEnded (words words′ : List ℕ) : Type 0 where
-  pub shows : (memory : List ℕ) → numbers-in words .done ≡ count-set (worked-view (parts memory .pending) (numbers-in words .tasks)) →
+  pub shows : (memory : List ℕ) → numbers-in words .done ≡ count-set (worked-in (parts memory) (numbers-in words)) →
       job-state (lent memory words′) ≡ quantum-ended (job-plan (lent memory words)) (tick-counted (lent memory words))
   pub rest : SameButClock words words′

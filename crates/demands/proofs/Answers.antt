@@ -34,7 +34,7 @@ telling-none = λ told. refl
 
 telling-task : (bytes : List ℕ) (t : ℕ) → Telling (first-no (task-questions bytes t))
 unfolding task-questions
-telling-task bytes t = telling-ask _ 6 _ (telling-ask _ 7 _ telling-none)
+telling-task bytes t = telling-ask _ 6 _ (telling-ask _ 7 _ (telling-ask _ 27 _ telling-none))
 
 telling-tasks : (bytes ts : List ℕ) → Telling (first-no (flatMap (task-questions bytes) ts))
 unfolding flatMap

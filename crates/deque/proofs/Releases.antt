@@ -8,8 +8,7 @@ use lib.Dec.{eqb, leb}
 use lib.ListN.{length, getD, set, length-set}
 use lib.Seq.{getD-set-same, getD-set-other}
 use borrow.Author.Tests.{eqb-true, eqb-false, eq-eqb, ne-eqb, lt-leb, le-leb}
-use Rattle.model.specs.Tests.{keep}
-use Rattle.laws.specs.Invariants.{occurrences}
+use Rattle.model.specs.Tests.{keep, occurrences}
 use Rattle.memory.specs.declared.Deque.{Deque}
 use Rattle.memory.specs.Parts.{Parts, with-next, with-pending, SameButLinks}
 use Rattle.memory.specs.Graphs.{shown}
@@ -18,7 +17,7 @@ use Rattle.memory.proofs.Walks.{walk-push, walk-set}
 use Rattle.deque.specs.Releasing.{becomes-ready, Releasable, Released, one-less, AllReleasable, AllReleased, each-less, last-awaited}
 
 pub same-rest : (p : Parts) → SameButLinks p p
-same-rest p = record { same-first = refl; same-second = refl; same-ends = refl }
+same-rest p = record { same-first = refl; same-second = refl; same-ends = refl; same-spans = refl }
 
 same-rest-after : {p q r : Parts} → SameButLinks p q → SameButLinks q r → SameButLinks p r
 same-rest-after a b =
@@ -26,6 +25,7 @@ same-rest-after a b =
       same-first = b .same-first ∙ a .same-first;
       same-second = b .same-second ∙ a .same-second;
       same-ends = b .same-ends ∙ a .same-ends;
+      same-spans = b .same-spans ∙ a .same-spans;
     }
 
 module _ (p : Parts) (task : ℕ) (deque : Deque) where
@@ -50,7 +50,7 @@ module _ (p : Parts) (task : ℕ) (deque : Deque) where
         undisturbed = λ f s h. refl;
         same-links = refl;
         grown = omega arith;
-        rest = record { same-first = refl; same-second = refl; same-ends = refl };
+        rest = record { same-first = refl; same-second = refl; same-ends = refl; same-spans = refl };
       }
 
   -- it awaits none any more, and is pushed
@@ -70,7 +70,7 @@ module _ (p : Parts) (task : ℕ) (deque : Deque) where
         undisturbed = λ f s h. rw e (walk-set (p .next) task (deque .front) f s (h nz′));
         same-links = simp length-set;
         grown = omega arith;
-        rest = record { same-first = refl; same-second = refl; same-ends = refl };
+        rest = record { same-first = refl; same-second = refl; same-ends = refl; same-spans = refl };
       }
 
 -- ---- both successors

@@ -5,8 +5,7 @@ use mathlib.Core.List.{List, [], _∷_, _++_, List·Memᴰ}
 use Prim.Native.Nat.{ℕ, _+_, _-_, _≤_, _<_}
 use lib.Dec.{eqb, leb}
 use lib.ListN.{length, getD, set}
-use Rattle.model.specs.Tests.{keep}
-use Rattle.laws.specs.Invariants.{occurrences}
+use Rattle.model.specs.Tests.{keep, occurrences}
 use Rattle.memory.specs.declared.Deque.{Deque}
 use Rattle.memory.specs.Parts.{Parts, SameButLinks}
 use Rattle.memory.specs.Graphs.{shown}

@@ -1,32 +1,26 @@
 -- The fresh job of an accepted plan shows the plan and the fresh state, and is reached by no calls.
 -- Assumes nothing.
 use mathlib.Core.Path.{_≡_, refl, sym, ap, _∙_}
-use mathlib.Core.Bool.{Bool, true, false}
-use mathlib.Core.List.{List, [], _∷_, map}
-use Prim.Native.Nat.{ℕ, zero, suc, _≤_, _<_}
+use mathlib.Core.Bool.{true, false}
+use mathlib.Core.List.{List, [], _∷_}
+use Prim.Native.Nat.{ℕ}
 use native.Mathlib.Omega.{arith}
-use lib.ListN.{length, getD, replicate, length-replicate, getD-replicate}
-use lib.Seq.{ext-getD}
-use borrow.Author.Tests.{ne-eqb, eqb-true}
-use Rattle.model.specs.Tests.{below, count-set}
+use lib.ListN.{replicate, length-replicate}
+use Rattle.model.specs.Tests.{below, count-set, zeros}
 use Rattle.model.specs.Questions.{accepted}
 use Rattle.model.specs.Plan.{Graph, Plan, tasks, predecessors, plan-of, plan-answer}
 use Rattle.model.specs.Machine.{fresh}
 use Rattle.model.specs.History.{run, run-from, beginning}
-use Rattle.model.specs.Statements.{SoundGraph}
-use Rattle.laws.specs.Awaited.{still-awaited}
 use Rattle.lists.proofs.Tests.{true-is-not-false}
 use Rattle.lists.proofs.Lists.{count-set-none}
-use Rattle.laws.proofs.Readiness.{first-ready}
-use Rattle.laws.proofs.Awaiting.{awaits-none, awaited-at-first}
+use Rattle.laws.proofs.Awaiting.{awaited-at-first}
+use Rattle.laws.proofs.Grants as Grants
 use Rattle.memory.specs.Parts.{parts}
 use Rattle.memory.specs.Graphs.{graph}
-use Rattle.memory.specs.View.{worked-view, deques-view, muggable-view}
+use Rattle.memory.specs.View.{deques-view, muggable-view}
 use Rattle.memory.specs.Words.{numbers-in}
-use Rattle.memory.specs.Sound.{awaited, Kept}
+use Rattle.memory.specs.Sound.{awaited, worked-in, Kept}
 use Rattle.memory.specs.Jobs.{lent, job-plan, job-state}
-use Rattle.lists.proofs.Tables.{table-length, table-at}
-use Rattle.memory.proofs.Views.{tasks-shown}
 use Rattle.plan.specs.Headings.{plan-view}
 use Rattle.plan_fields.specs.Answers.{answer-of, passes}
 use Rattle.plan.specs.Promise.{Holds, RightHeading}
@@ -34,14 +28,6 @@ use Rattle.plan.specs.declared.Heading.{Heading}
 use Rattle.plan.proofs.Sound.{accepted-sound}
 use Rattle.engine.specs.Reached.{Reached}
 use Rattle.engine.specs.Moves.{Accepts}
-
--- a test that fails at every number below n
-no-flags : (f : ℕ → Bool) (n : ℕ) → ((t : ℕ) → t < n → f t ≡ false) → map f (below n) ≡ replicate n false
-no-flags f n h =
-    ext-getD false (map f (below n)) (replicate n false) (table-length f n ∙ sym (length-replicate n false))
-    (λ i l.
-    let less : i < n = omega (arith, table-length f n) in
-    table-at f n i false less ∙ h i less ∙ sym (getD-replicate n i false false less))
 
 -- the words of a plan before any call
 abbrev pub fresh-words : Heading → List ℕ
@@ -60,47 +46,24 @@ module _ (bytes : List ℕ) (h : Heading) (memory : List ℕ) (answer : plan-ans
   unfolding plan-view
   same-graph = ap (λ (q : Plan). q .graph) (holds .shows)
 
-  task-number : tasks (plan-of bytes .graph) ≡ h .tasks
-  task-number = ap tasks (sym same-graph) ∙ tasks-shown (parts memory .first) (parts memory .second) (h .tasks)
-
   same-predecessors : (t : ℕ) → predecessors (graph (parts memory) (h .tasks)) t ≡ predecessors (plan-of bytes .graph) t
   same-predecessors t = ap (λ (g : Graph). predecessors g t) same-graph
 
-  -- no task has more than two predecessors
-  few-predecessors : (t : ℕ) → t < h .tasks → length (predecessors (plan-of bytes .graph) t) ≤ 2
-  few-predecessors t less = go t less
-    where
-      sound : SoundGraph (plan-of bytes .graph)
-      sound = accepted-sound bytes answer .graph
-
-      go : (t : ℕ) → t < h .tasks → length (predecessors (plan-of bytes .graph) t) ≤ 2
-      go zero less =
-          omega (
-            arith,
-            awaited-at-first (plan-of bytes .graph) 0,
-            eqb-true (still-awaited (plan-of bytes .graph) (replicate (tasks (plan-of bytes .graph)) false) 0) 0
-                (awaits-none (plan-of bytes .graph) (replicate (tasks (plan-of bytes .graph)) false) 0
-                ∙ first-ready sound (replicate (tasks (plan-of bytes .graph)) false)),
-          )
-      go (suc t) less = sound .preceded-twice (suc t) (omega arith) (omega (arith, task-number))
-
-  none-worked : worked-view (parts memory .pending) (h .tasks) ≡ replicate (h .tasks) false
-  unfolding worked-view
-  none-worked =
-      no-flags _ (h .tasks)
-      (λ t less. ne-eqb (getD (parts memory .pending) t 0) 3 (λ same. omega (arith, holds .preceded t less, few-predecessors t less)))
+  -- all ticks are left, and no task is worked
+  none-worked : worked-in (parts memory) (numbers-in (fresh-words h)) ≡ replicate (tasks (plan-of bytes .graph)) false
+  none-worked = ap zeros (holds .untouched) ∙ Grants.none-worked (accepted-sound bytes answer)
 
   fresh-state : job-state (lent memory (fresh-words h)) ≡ fresh (plan-of bytes)
   unfolding job-state fresh deques-view muggable-view below
-  fresh-state = rw (none-worked, ← task-number)
+  fresh-state = rw (holds .untouched)
 
   kept : Kept (graph (parts memory) (h .tasks)) (parts memory) (numbers-in (fresh-words h))
   unfolding awaited
   kept =
       record {
-        pending-right = λ t less unworked.
-            rw (none-worked, same-predecessors, ← task-number) (holds .preceded t less ∙ sym (awaited-at-first (plan-of bytes .graph) t));
-        done-right = sym (ap count-set none-worked ∙ count-set-none (h .tasks));
+        pending-right = λ t less.
+            rw (none-worked, same-predecessors) (holds .preceded t less ∙ sym (awaited-at-first (plan-of bytes .graph) t));
+        done-right = sym (ap count-set none-worked ∙ count-set-none (tasks (plan-of bytes .graph)));
         head-in-ring = omega arith;
       }
 
@@ -118,6 +81,7 @@ module _ (bytes : List ℕ) (h : Heading) (memory : List ℕ) (answer : plan-ans
               links = rw (holds .no-links) (length-replicate {A = ℕ} 1024 0);
               numbers = holds .pending-ends .places;
               places = rw (holds .no-deques) (length-replicate {A = ℕ} 256 0);
+              ticks = holds .spans-ends .places;
             };
         words-sized = refl;
         kept = kept;

@@ -1,4 +1,4 @@
--- Demands 2 and 3, and request U6's sum, over a job: whatever job accepted plans and calls reach has what they say.
+-- Demands 2 and 3, request U6's sum and request U9's ticks, over a job: whatever job accepted plans and calls reach has what they say.
 -- Assumes nothing.
 use mathlib.Core.Path.{_≡_, sym, ap, subst, _∙_}
 use mathlib.Core.Bool.{true, false}
@@ -7,9 +7,10 @@ use mathlib.Core.List.{List}
 use Prim.Native.Nat.{ℕ, _<_}
 use lib.ListN.{getD}
 use Rattle.model.specs.Plan.{Plan, tasks}
-use Rattle.model.specs.Machine.{State, Call, status}
+use Rattle.model.specs.Machine.{worked, State, Call, status}
 use Rattle.model.specs.WholeTicks.{all-counted}
-use Rattle.laws.proofs.Theorems.{demand-three, once-and-in-order, finished-exactly, whole-ticks}
+use Rattle.laws.proofs.Theorems.{demand-three, once-and-in-order, finished-exactly, whole-ticks, ticks-are-work}
+use Rattle.laws.proofs.Theorems.{only-fronts-begun}
 use Rattle.memory.specs.declared.Job.{Job}
 use Rattle.memory.specs.Jobs.{job-state}
 use Rattle.engine.specs.Reached.{Reached}
@@ -28,8 +29,10 @@ demands {plan} {calls} r =
       in-order = once-and-in-order sound calls;
       finished-exactly =
           subst
-          (λ (s : State). (status s ≡ 3) ↔ ((t : ℕ) → t < tasks (plan .graph) → getD (s .execution .worked) t false ≡ true))
+          (λ (s : State). (status s ≡ 3) ↔ ((t : ℕ) → t < tasks (plan .graph) → getD (worked (s .execution)) t false ≡ true))
           (sym (r .its-state))
           (finished-exactly sound calls);
       adds-up = ap (λ (s : State). all-counted (s .execution .counts)) (r .its-state) ∙ whole-ticks sound calls .adds-up;
+      ticks-are-work = ticks-are-work sound calls;
+      only-fronts-begun = only-fronts-begun sound calls;
     }

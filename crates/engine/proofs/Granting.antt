@@ -71,8 +71,8 @@ module _ {plan : Plan} {calls : List Call} {memory words : List ℕ} (g : ℕ) (
     granted-kept =
         let same = granted .same-parts in
         record {
-          pending-right = rw (same .same-pending, same .same-first, same .same-second, same-tasks) (r .kept .pending-right);
-          done-right = rw (same .same-pending, same-tasks) (ap (λ (m : Numbers). m .done) (granted .numbers) ∙ r .kept .done-right);
+          pending-right = rw (same .same-pending, same .same-spans, same .same-first, same .same-second, same-tasks) (r .kept .pending-right);
+          done-right = rw (same .same-spans, same-tasks) (ap (λ (m : Numbers). m .done) (granted .numbers) ∙ r .kept .done-right);
           head-in-ring = rw (ap (λ (m : Numbers). m .head) (granted .numbers)) (r .kept .head-in-ring);
         }
 
@@ -97,13 +97,14 @@ module _ {plan : Plan} {calls : List Call} {memory words : List ℕ} (g : ℕ) (
           accepted-moves (grants g) grant-is-accepted granted-stepped
           (began .rest .same-plan memory′
           ∙ plan-stays memory words memory′ words₁ (granted .tail) same-tasks
-          (record { same-first = same .same-first; same-second = same .same-second }))
+          (record { same-first = same .same-first; same-second = same .same-second; same-ticks = rw (same .same-spans) (λ t. refl) }))
           (record {
             firsts = rw (same .same-first) (r .parts-sized .firsts);
             seconds = rw (same .same-second) (r .parts-sized .seconds);
             links = rw (same .same-next) (r .parts-sized .links);
             numbers = rw (same .same-pending) (r .parts-sized .numbers);
             places = granted .places;
+            ticks = rw (same .same-spans) (r .parts-sized .ticks);
           })
           (began .rest .same-size ∙ granted .tail .same-length ∙ r .words-sized)
           (subst (λ (m : Numbers). Kept (graph (parts memory′) (m .tasks)) (parts memory′) m)

@@ -42,7 +42,7 @@ module _ {plan : Plan} {calls : List Call} {job : Job} (r : Reached plan calls j
   pub known-numbers : CountsFit (job-state job)
   known-numbers =
       let bounds = plan-bounds (r .accepted-plan) in
-      rw (r .its-state) (counts-fit (plan-sound (r .accepted-plan)) calls (bounds .quantum-most) (bounds .tasks-most))
+      rw (r .its-state) (counts-fit (plan-sound (r .accepted-plan)) calls (bounds .quantum-most) (bounds .tasks-most) (bounds .durations-most))
 
   -- the desire is a power of R
   pub known-power : Power (terms-in (job .words) .responsiveness) (desire-in (job .words))

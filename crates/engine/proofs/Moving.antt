@@ -10,11 +10,12 @@ use Rattle.model.specs.Plan.{Plan}
 use Rattle.model.specs.Machine.{Call, call-answer, step}
 use Rattle.laws.proofs.Runs.{run-state}
 use Rattle.memory.specs.declared.Job.{Job}
-use Rattle.memory.specs.Parts.{parts, SameGraph}
+use Rattle.memory.specs.Parts.{parts, SamePlan}
 use Rattle.memory.specs.Words.{word-count, numbers-in, SameTail}
 use Rattle.memory.specs.Graphs.{graph}
 use Rattle.memory.specs.Sound.{Sizes, Kept}
 use Rattle.memory.specs.Jobs.{lent, job-parts, job-numbers, job-plan, job-state}
+use Rattle.memory.proofs.Views.{durations-same}
 use Rattle.call_questions.specs.declared.CallAnswer.{CallAnswer}
 use Rattle.call_questions.specs.Answers.{answer-of}
 use Rattle.engine.specs.Reached.{Reached}
@@ -25,9 +26,9 @@ use Rattle.call_questions.proofs.Answers.{IsRefusal}
 pub not-both : {a : Answer} (n : ℕ) → a ≡ accepted → a ≡ refused n → ⊥
 not-both n is-yes is-no = let z : _≡_ {A = ℕ} 0 1 = cc in omega arith
 
--- the plan stays where its terms, its number of tasks and the graph do
+-- the plan stays where its terms, its number of tasks, the graph and the tasks' ticks do
 pub plan-stays : (memory words memory′ words′ : List ℕ) → SameTail words words′ → numbers-in words′ .tasks ≡ numbers-in words .tasks →
-    SameGraph (parts memory) (parts memory′) → job-plan (lent memory′ words′) ≡ job-plan (lent memory words)
+    SamePlan (parts memory) (parts memory′) → job-plan (lent memory′ words′) ≡ job-plan (lent memory words)
 unfolding job-plan
 plan-stays memory words memory′ words′ tail same-tasks same =
     rw (
@@ -37,6 +38,7 @@ plan-stays memory words memory′ words′ tail same-tasks same =
       same .same-first,
       same .same-second,
       same-tasks,
+      durations-same (parts memory .spans) (parts memory′ .spans) (numbers-in words .tasks) (same .same-ticks),
     )
     refl
 

@@ -13,7 +13,7 @@ use Rattle.laws.specs.Reached.{OpenQuantum}
 use Rattle.laws.proofs.Accepted.{TickAccepted, tick-accepted}
 use Rattle.laws.proofs.Histories.{workers-placed}
 use Rattle.memory.specs.declared.Job.{Job}
-use Rattle.memory.specs.Parts.{parts, SameGraph}
+use Rattle.memory.specs.Parts.{parts, SamePlan}
 use Rattle.memory.specs.Words.{Numbers, numbers-in, terms-in, open-in, ticks-in, SameTail}
 use Rattle.memory.specs.Graphs.{graph}
 use Rattle.memory.specs.View.{view}
@@ -83,7 +83,6 @@ module _ {plan : Plan} {calls : List Call} {memory words : List ℕ} (choices : 
                   workers-placed (known-arranged r)
                   (rw (workers-shown (parts memory .next) (parts memory .ends) (numbers-in words .workers)) some);
               bounded = known-measured r .deques-at-most;
-              tallied = known-arranged r .tally;
             };
         kept = r .kept;
       }
@@ -142,12 +141,12 @@ module _ {plan : Plan} {calls : List Call} {memory words : List ℕ} (choices : 
         (shows : view (parts memory′) (numbers-in words₁)
         ≡ cycles (graph (parts memory) (numbers-in words .tasks)) 0 choices (view (parts memory) (numbers-in words)))
         (same-tasks : numbers-in words₁ .tasks ≡ numbers-in words .tasks)
-        (same-graph : SameGraph (parts memory) (parts memory′))
+        (same-plan : SamePlan (parts memory) (parts memory′))
         (sizes : Sizes (parts memory′))
         (kept : Kept (graph (parts memory′) (numbers-in words₁ .tasks)) (parts memory′) (numbers-in words₁))
         (ended : TickEnded words₁ words′) where
       plan-after-cycles : job-plan (lent memory′ words₁) ≡ job-plan job
-      plan-after-cycles = plan-stays memory words memory′ words₁ tail same-tasks same-graph
+      plan-after-cycles = plan-stays memory words memory′ words₁ tail same-tasks same-plan
 
       counted-is-ticked : tick-counted (lent memory′ words₁) ≡ ticked (job-plan job) choices (job-state job)
       unfolding ticked job-state job-plan
@@ -179,7 +178,7 @@ module _ {plan : Plan} {calls : List Call} {memory words : List ℕ} (choices : 
   pub worked-tick : {memory′ words₁ words′ : List ℕ} → Ticked memory words choices memory′ words₁ → TickEnded words₁ words′ →
       Moves (ticks choices) job (lent memory′ words′)
   worked-tick {memory′} done ended =
-      ticked-moves (done .tail) memory′ (done .shows) (done .grown .same-tasks) (done .same-graph) (done .sound .sizes)
+      ticked-moves (done .tail) memory′ (done .shows) (done .grown .same-tasks) (done .same-plan) (done .sound .sizes)
       (done .sound .kept) ended
 
   -- no worker is granted
@@ -188,4 +187,4 @@ module _ {plan : Plan} {calls : List Call} {memory words : List ℕ} (choices : 
   idle-tick nobody ended =
       ticked-moves (same-tail words) memory
       (no-cycles (graph (parts memory) (numbers-in words .tasks)) choices (view (parts memory) (numbers-in words)) (one-each ∙ nobody))
-      refl (record { same-first = refl; same-second = refl }) (r .parts-sized) (r .kept) ended
+      refl (record { same-first = refl; same-second = refl; same-ticks = λ t. refl }) (r .parts-sized) (r .kept) ended

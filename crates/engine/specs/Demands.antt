@@ -1,4 +1,4 @@
--- Demands 2 and 3, and request U6's sum, over a job that a plan and a list of calls, refused ones included, reach. The history is made from
+-- Demands 2 and 3, request U6's sum and request U9's ticks, over a job that a plan and a list of calls, refused ones included, reach. The history is made from
 -- the plan and the calls alone; what the job shows is compared with it.
 use mathlib.Core.Path.{_≡_}
 use mathlib.Core.Bool.{true, false}
@@ -7,10 +7,11 @@ use mathlib.Core.List.{List}
 use Prim.Native.Nat.{ℕ, _+_, _<_}
 use lib.ListN.{getD}
 use Rattle.model.specs.Plan.{Plan, tasks}
-use Rattle.model.specs.Machine.{Call, status}
+use Rattle.model.specs.Machine.{worked, Call, status}
 use Rattle.model.specs.History.{run, work-count, mug-count}
 use Rattle.model.specs.Statements.{Demand3, OnceAndInOrder}
 use Rattle.model.specs.WholeTicks.{worker-ticks}
+use Rattle.model.specs.Lasting.{TicksAreWork, OnlyFrontsBegun}
 use Rattle.memory.specs.declared.Job.{Job}
 use Rattle.memory.specs.Jobs.{job-numbers, job-state}
 
@@ -24,7 +25,10 @@ pub record JobDemands (plan : Plan) (calls : List Call) (job : Job) : Type 0 whe
   pub shows-state : job-state job ≡ run plan calls .state
   pub in-order : OnceAndInOrder plan (run plan calls)
   pub finished-exactly : (status (job-state job) ≡ 3) ↔
-      ((t : ℕ) → t < tasks (plan .graph) → getD (job-state job .execution .worked) t false ≡ true)
+      ((t : ℕ) → t < tasks (plan .graph) → getD (worked (job-state job .execution)) t false ≡ true)
   -- request U6: "work, mug and steal ticks add up to the sum of the granted counts over all accepted ticks, a sum read from the history of
   -- calls"
   pub adds-up : job-numbers job .works + job-numbers job .mugs + job-numbers job .steals ≡ worker-ticks plan calls
+  -- request U9: of each piece the ticks done and those left are its ticks, and W is the sum of the ticks done; only a front piece is begun
+  pub ticks-are-work : TicksAreWork plan (run plan calls)
+  pub only-fronts-begun : OnlyFrontsBegun plan (run plan calls)

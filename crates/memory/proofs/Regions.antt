@@ -7,7 +7,7 @@ use lib.ListN.{length, getD, set, drop, length-drop}
 use lib.Seq.{drop-set-add, take-set-lt, drop-set-lt, take-set-le, getD-take, getD-drop, length-take-le, getD-set-other, set-getD}
 use Rattle.memory.specs.declared.Deque.{Deque}
 use Rattle.memory.specs.View.{front-at, size-at, ends-at, put-part}
-use Rattle.memory.specs.Parts.{region, parts, with-next, with-pending, with-ends}
+use Rattle.memory.specs.Parts.{region, parts, with-next, with-pending, with-ends, with-spans}
 
 -- ---- a region, over any offset and size
 
@@ -59,6 +59,10 @@ module _ (memory : List ℕ) (i : ℕ) where
   unfolding parts
   ends-part-at inside = rw (region-at 4096 256 memory i 0 inside)
 
+  pub spans-at : i < 1024 → getD memory (4352 + i) 0 ≡ getD (parts memory .spans) i 0
+  unfolding parts
+  spans-at inside = rw (region-at 4352 1024 memory i 0 inside)
+
   module _ (v : ℕ) where
     pub store-next : i < 1024 → parts (set memory (2048 + i) v) ≡ with-next (parts memory) (set (parts memory .next) i v)
     unfolding parts
@@ -69,6 +73,7 @@ module _ (memory : List ℕ) (i : ℕ) where
           store-inside 2048 1024 memory i v inside,
           store-below 3072 1024 memory (2048 + i) v (omega arith),
           store-below 4096 256 memory (2048 + i) v (omega arith),
+          store-below 4352 1024 memory (2048 + i) v (omega arith),
         )
 
     pub store-pending : i < 1024 → parts (set memory (3072 + i) v) ≡ with-pending (parts memory) (set (parts memory .pending) i v)
@@ -80,6 +85,7 @@ module _ (memory : List ℕ) (i : ℕ) where
           store-above 2048 1024 memory (3072 + i) v (omega arith),
           store-inside 3072 1024 memory i v inside,
           store-below 4096 256 memory (3072 + i) v (omega arith),
+          store-below 4352 1024 memory (3072 + i) v (omega arith),
         )
 
     pub store-ends : i < 256 → parts (set memory (4096 + i) v) ≡ with-ends (parts memory) (set (parts memory .ends) i v)
@@ -91,6 +97,19 @@ module _ (memory : List ℕ) (i : ℕ) where
           store-above 2048 1024 memory (4096 + i) v (omega arith),
           store-above 3072 1024 memory (4096 + i) v (omega arith),
           store-inside 4096 256 memory i v inside,
+          store-below 4352 1024 memory (4096 + i) v (omega arith),
+        )
+
+    pub store-spans : i < 1024 → parts (set memory (4352 + i) v) ≡ with-spans (parts memory) (set (parts memory .spans) i v)
+    unfolding parts
+    store-spans inside =
+        rw (
+          store-above 0 1024 memory (4352 + i) v (omega arith),
+          store-above 1024 1024 memory (4352 + i) v (omega arith),
+          store-above 2048 1024 memory (4352 + i) v (omega arith),
+          store-above 3072 1024 memory (4352 + i) v (omega arith),
+          store-above 4096 256 memory (4352 + i) v (omega arith),
+          store-inside 4352 1024 memory i v inside,
         )
 
 -- ---- deques

@@ -8,15 +8,17 @@ use lib.Dec.{eqb, eqb·suc-suc}
 use lib.ListN.{length, getD, set, length-set}
 use lib.Seq.{getD-set-same, getD-set-other}
 use borrow.Author.Tests.{ne-eqb}
-use Rattle.model.specs.Tests.{count-set, all-set}
+use Rattle.model.specs.Tests.{count-set, all-set, zeros}
 use Rattle.model.specs.Machine.{finished}
 use Rattle.lists.proofs.Lists.{count-set-at-most}
+use Rattle.lists.proofs.Sums.{zeros-length}
 use Rattle.memory.specs.declared.Deque.{Deque}
-use Rattle.memory.specs.Parts.{Parts}
+use Rattle.memory.specs.Parts.{Parts, left-at, ticks-at}
 use Rattle.memory.specs.Words.{Numbers}
-use Rattle.memory.specs.Graphs.{successors-at, successors-view}
+use Rattle.memory.specs.Graphs.{successors-at, successors-view, durations-view}
 use Rattle.memory.specs.View.{tasks-of, front-at, size-at, ends-at, put-deque, deque-at, deques-view, ring-place}
-use Rattle.memory.specs.View.{muggable-view, worked-view, worked-mark, view}
+use Rattle.memory.specs.View.{muggable-view, left-view, view}
+use Rattle.memory.specs.Sound.{worked-in}
 use Rattle.memory.proofs.Walks.{length-walk}
 use Rattle.lists.proofs.Tables.{table-length, table-at, table-set, table-same, table-tail}
 
@@ -47,9 +49,22 @@ pub muggable-shown : (next ends : List ℕ) (head waiting : ℕ) → length (mug
 unfolding muggable-view
 muggable-shown next ends head waiting = table-length (λ j. deque-at next ends (ring-place head j)) waiting
 
-pub flags-shown : (pending : List ℕ) (n : ℕ) → length (worked-view pending n) ≡ n
-unfolding worked-view
-flags-shown pending n = table-length (λ s. eqb (getD pending s 0) worked-mark) n
+pub left-shown : (spans : List ℕ) (n : ℕ) → length (left-view spans n) ≡ n
+unfolding left-view
+left-shown spans n = table-length (left-at spans) n
+
+pub left-here : (spans : List ℕ) (n t : ℕ) → t < n → getD (left-view spans n) t 0 ≡ left-at spans t
+unfolding left-view
+left-here spans n t h = table-at (left-at spans) n t 0 h
+
+pub flags-shown : (spans : List ℕ) (n : ℕ) → length (zeros (left-view spans n)) ≡ n
+flags-shown spans n = zeros-length (left-view spans n) ∙ left-shown spans n
+
+-- tasks with the same ticks show the same durations
+pub durations-same : (spans spans′ : List ℕ) (n : ℕ) → ((t : ℕ) → ticks-at spans′ t ≡ ticks-at spans t) →
+    durations-view spans′ n ≡ durations-view spans n
+unfolding durations-view
+durations-same spans spans′ n same = table-same (ticks-at spans) (ticks-at spans′) n (λ t l. same t)
 
 pub tasks-shown : (first second : List ℕ) (n : ℕ) → length (successors-view first second n) ≡ n
 unfolding successors-view
@@ -139,12 +154,10 @@ all-counted (true ∷ flags) = all-counted flags ∙ sym (eqb·suc-suc (count-se
 all-counted (false ∷ flags) = sym (ne-eqb (count-set flags) (suc (length flags)) (λ e. omega (arith, count-set-at-most flags)))
 
 -- no more tasks are worked than there are
-pub done-at-most : (p : Parts) (m : Numbers) → m .done ≡ count-set (worked-view (p .pending) (m .tasks)) → m .done ≤ m .tasks
-done-at-most p m done-right =
-    omega (arith, done-right, count-set-at-most (worked-view (p .pending) (m .tasks)), flags-shown (p .pending) (m .tasks))
+pub done-at-most : (p : Parts) (m : Numbers) → m .done ≡ count-set (worked-in p m) → m .done ≤ m .tasks
+done-at-most p m done-right = omega (arith, done-right, count-set-at-most (worked-in p m), flags-shown (p .spans) (m .tasks))
 
 -- "finished": the number of worked tasks is that of all tasks
-pub finished-shown : (p : Parts) (m : Numbers) → m .done ≡ count-set (worked-view (p .pending) (m .tasks)) →
-    finished (view p m) ≡ eqb (m .done) (m .tasks)
+pub finished-shown : (p : Parts) (m : Numbers) → m .done ≡ count-set (worked-in p m) → finished (view p m) ≡ eqb (m .done) (m .tasks)
 unfolding finished
-finished-shown p m done-right = all-counted (worked-view (p .pending) (m .tasks)) ∙ rw (← done-right, flags-shown) refl
+finished-shown p m done-right = all-counted (worked-in p m) ∙ rw (← done-right, flags-shown) refl

@@ -9,7 +9,7 @@ use lib.Dec.{eqb}
 use lib.ListN.{length, getD, set}
 use lib.Seq.{getD-set-same, getD-set-other}
 use borrow.Author.Tests.{eqb-false}
-use Rattle.laws.specs.Invariants.{occurrences}
+use Rattle.model.specs.Tests.{occurrences}
 use Rattle.memory.specs.View.{walk}
 
 -- a task that stands nowhere in a deque is not its front, and stands nowhere in the rest

@@ -5,12 +5,13 @@ use Rattle.memory.specs.Words.{Numbers}
 
 -- ---- the numbers after a cycle of each kind
 
-abbrev pub after-work : Numbers → Numbers
-after-work m =
+-- with 1 task completed or 0
+abbrev pub after-work : ℕ → Numbers → Numbers
+after-work completed m =
     record {
       tasks = m .tasks;
       workers = m .workers;
-      done = m .done + 1;
+      done = m .done + completed;
       works = m .works + 1;
       mugs = m .mugs;
       steals = m .steals;

@@ -1,4 +1,4 @@
--- The plan's graph, as two parts of the memory show it.
+-- The plan's graph and its tasks' ticks, as three parts of the memory show them.
 use mathlib.Core.Bool.{cond}
 use mathlib.Core.List.{List, [], _∷_, map}
 use Prim.Native.Nat.{ℕ}
@@ -6,7 +6,7 @@ use lib.Dec.{eqb}
 use lib.ListN.{getD}
 use Rattle.model.specs.Tests.{below}
 use Rattle.model.specs.Plan.{Graph}
-use Rattle.memory.specs.Parts.{Parts}
+use Rattle.memory.specs.Parts.{Parts, ticks-at}
 
 -- the successors that two fields show; 0 is an unused field, since no successor is task 0
 unfoldable pub shown : ℕ → ℕ → List ℕ
@@ -23,3 +23,7 @@ successors-view first second n = map (successors-at first second) (below n)
 -- the graph that the parts show
 abbrev pub graph : Parts → ℕ → Graph
 graph p n = record { successors = successors-view (p .first) (p .second) n }
+
+-- the ticks of each task below n
+unfoldable pub durations-view : List ℕ → ℕ → List ℕ
+durations-view spans n = map (ticks-at spans) (below n)

@@ -9,7 +9,7 @@ use Rattle.model.specs.Machine.{State, Quantum, idle, opened}
 use Rattle.memory.specs.declared.Job.{Job}
 use Rattle.memory.specs.Parts.{Parts, parts}
 use Rattle.memory.specs.Words.{Numbers, numbers-in, terms-in, desire-in, started-in, open-in, ticks-in, begun-in}
-use Rattle.memory.specs.Graphs.{graph}
+use Rattle.memory.specs.Graphs.{graph, durations-view}
 use Rattle.memory.specs.View.{view}
 
 -- the job that memory and words make
@@ -35,7 +35,12 @@ job-numbers job = numbers-in (job .words)
 
 -- the plan that it carries
 unfoldable pub job-plan : Job → Plan
-job-plan job = record { terms = terms-in (job .words); graph = graph (job-parts job) (job-numbers job .tasks) }
+job-plan job =
+    record {
+      terms = terms-in (job .words);
+      graph = graph (job-parts job) (job-numbers job .tasks);
+      durations = durations-view (job-parts job .spans) (job-numbers job .tasks);
+    }
 
 abbrev pub quantum-view : Bool → ℕ → Quantum
 quantum-view true ticks = opened ticks

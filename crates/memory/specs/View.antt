@@ -1,13 +1,11 @@
 -- What the parts and numbers of a job show: the execution that the workers' cycles move.
-use mathlib.Core.Bool.{Bool}
 use mathlib.Core.List.{List, [], _∷_, map}
 use Prim.Native.Nat.{ℕ, zero, suc, _+_, _*_, _%_}
-use lib.Dec.{eqb}
 use lib.ListN.{getD, set}
 use Rattle.model.specs.Tests.{below}
 use Rattle.model.specs.Machine.{Execution, Counts}
 use Rattle.memory.specs.declared.Deque.{Deque}
-use Rattle.memory.specs.Parts.{Parts, with-ends}
+use Rattle.memory.specs.Parts.{Parts, with-ends, left-at}
 use Rattle.memory.specs.Words.{Numbers}
 
 -- ---- the deques
@@ -54,15 +52,11 @@ ring-place head i = 64 + (head + i) % 64
 unfoldable pub muggable-view : List ℕ → List ℕ → ℕ → ℕ → List (List ℕ)
 muggable-view next ends head waiting = map (λ i. deque-at next ends (ring-place head i)) (below waiting)
 
--- ---- the worked tasks
+-- ---- the ticks left
 
--- what `pending` holds of a worked task; of another one it holds the number of its predecessors that are not worked
-abbrev pub worked-mark : ℕ
-worked-mark = 3
-
--- of each task below n: it is worked
-unfoldable pub worked-view : List ℕ → ℕ → List Bool
-worked-view pending n = map (λ t. eqb (getD pending t 0) worked-mark) (below n)
+-- of each task below n
+unfoldable pub left-view : List ℕ → ℕ → List ℕ
+left-view spans n = map (left-at spans) (below n)
 
 -- ---- the execution
 
@@ -79,7 +73,7 @@ counts-view m =
 abbrev pub view : Parts → Numbers → Execution
 view p m =
     record {
-      worked = worked-view (p .pending) (m .tasks);
+      left = left-view (p .spans) (m .tasks);
       deques = deques-view (p .next) (p .ends) (m .workers);
       muggable = muggable-view (p .next) (p .ends) (m .head) (m .waiting);
       counts = counts-view m;

@@ -36,7 +36,7 @@ steals-word = 5
 pub record Numbers : Type 0 where
   pub tasks : ℕ
   pub workers : ℕ  -- the granted count
-  pub done : ℕ  -- how many tasks are worked
+  pub done : ℕ  -- how many tasks are worked, that is, completed
   pub works : ℕ  -- work cycles
   pub mugs : ℕ  -- mug cycles
   pub steals : ℕ  -- steal cycles

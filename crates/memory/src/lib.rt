@@ -2,7 +2,7 @@
 // `specs/Words.antt` what each word is, and `specs/Jobs.antt` which plan and which state the two show.
 
 // So many numbers has a job's memory, and so many words it has.
-pub const MEMORY_SIZE: usize = 4352;
+pub const MEMORY_SIZE: usize = 5376;
 
 pub const WORD_COUNT: usize = 18;
 
@@ -19,8 +19,10 @@ pub const PENDING: usize = 3072;
 
 pub const ENDS: usize = 4096;
 
-// What the part `pending` holds of a worked task.
-pub const WORKED_MARK: u16 = 3;
+pub const SPANS: usize = 4352;
+
+// A number of the part `spans` is so many times a task's ticks, and the ticks that it has left.
+pub const SPAN: u16 = 256;
 
 // The words.
 pub const TASKS: usize = 0;

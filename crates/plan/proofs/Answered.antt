@@ -9,7 +9,7 @@ use lib.ListN.{length, getD, set, drop}
 use Rattle.model.specs.Tests.{below, every}
 use Rattle.model.specs.Questions.{Answer, accepted, ask, first-no}
 use Rattle.model.specs.Plan.{header, task-count, task-questions, header-questions, graph-questions, all-preceded, one-exit, plan-of}
-use Rattle.model.specs.Plan.{plan-answer}
+use Rattle.model.specs.Plan.{plan-answer, forms, form-with, form-of}
 use Rattle.memory.specs.Parts.{Parts, parts}
 use Rattle.memory.proofs.Regions.{store-pending}
 use Rattle.plan_fields.specs.declared.PlanAnswer.{PlanAnswer}
@@ -96,7 +96,7 @@ module _ (bytes : List ℕ) (h : Header) (long-enough : 5 ≤ length bytes)
   asked-fields = first-no (field-questions (h .form) (h .responsiveness) (h .utilization) (h .quantum) (h .tasks) (length bytes))
 
   header-asked : asked-fields ≡ first-no (header-questions bytes)
-  unfolding field-questions header-questions first-no
+  unfolding field-questions header-questions first-no form-of
   header-asked =
       rw (
         header-of-bytes .form-read,
@@ -120,10 +120,15 @@ module _ (bytes : List ℕ) (h : Header) (read : HeaderRead bytes h) where
   pub tasks-number : h .tasks ≡ task-count bytes
   tasks-number = read .fields .tasks-read
 
+  pub its-width : {width : ℕ} → width ≡ form-with (h .form) forms .task-bytes → width ≡ form-of bytes .task-bytes
+  unfolding form-of
+  its-width e = rw (e, read .fields .form-read)
+
   pub first-due : (memory : List ℕ) → memory ≡ no-memory → Due bytes (h .tasks) 0 (parts memory)
   first-due memory zeros =
       record {
-        whole = header-facts bytes (read .passed) .exact-length ∙ ap (λ n. 5 + 3 * n) (sym tasks-number);
+        known = header-facts bytes (read .passed) .known-form;
+        whole = header-facts bytes (read .passed) .exact-length ∙ ap (λ n. 5 + form-of bytes .task-bytes * n) (sym tasks-number);
         number = tasks-number;
         held = rw zeros (nothing-held bytes);
       }

@@ -1,4 +1,4 @@
--- What the questions say as facts: of the header, of one task's fields and of its successors.
+-- What the questions say as facts: of the header, of one task's fields, of its successors and of its ticks.
 use mathlib.Core.Path.{_≡_, refl, sym, _∙_, ap}
 use mathlib.Core.Bool.{true, _&&_}
 use mathlib.Core.List.{List, [], _∷_, List·Memᴰ}
@@ -11,11 +11,11 @@ use Rattle.model.specs.Tests.{every}
 use Rattle.model.specs.Questions.{accepted, first-no}
 use Rattle.model.specs.Plan.{tasks, successors-of, form-field, responsiveness-field, utilization-field, quantum-length-field, task-count}
 use Rattle.model.specs.Plan.{count-field, first-field, second-field, used-fields, successor-fields, plan-of, fields-ok, two-differ}
-use Rattle.model.specs.Plan.{targets-ok, task-questions, header-questions}
+use Rattle.model.specs.Plan.{targets-ok, task-questions, header-questions, forms, is-form, form-of, duration-field}
 use Rattle.lists.proofs.Tests.{true-is-not-false, and-left, and-right, both}
 use Rattle.lists.proofs.Lists.{every-at, every-from}
 use Rattle.lists.proofs.Tables.{table-length, table-at}
-use Rattle.lists.proofs.Questions.{ask-accepted, two-accepted}
+use Rattle.lists.proofs.Questions.{ask-accepted}
 
 -- ---- the plan that bytes give
 
@@ -31,12 +31,12 @@ successors-given bytes t h = table-at (successor-fields bytes) (task-count bytes
 
 pub record HeaderFacts (bytes : List ℕ) : Type 0 where
   pub long-enough : 5 ≤ length bytes
-  pub known-form : form-field bytes ≡ 1
+  pub known-form : is-form (form-field bytes) forms ≡ true
   pub responsive : 2 ≤ responsiveness-field bytes
   pub utilized : 1 ≤ utilization-field bytes
   pub percent : utilization-field bytes ≤ 100
   pub timed : 1 ≤ quantum-length-field bytes
-  pub exact-length : length bytes ≡ 5 + 3 * task-count bytes
+  pub exact-length : length bytes ≡ 5 + form-of bytes .task-bytes * task-count bytes
 
 pub header-facts : (bytes : List ℕ) → first-no (header-questions bytes) ≡ accepted → HeaderFacts bytes
 unfolding header-questions
@@ -49,7 +49,7 @@ header-facts bytes h =
     let f = ask-accepted _ _ _ (e .1) in
     record {
       long-enough = leb-true _ _ (a .0);
-      known-form = eqb-true _ _ (b .0);
+      known-form = b .0;
       responsive = leb-true _ _ (c .0);
       utilized = leb-true _ _ (and-left (leb 1 (utilization-field bytes)) (leb (utilization-field bytes) 100) (d .0));
       percent = leb-true _ _ (and-right (leb 1 (utilization-field bytes)) (leb (utilization-field bytes) 100) (d .0));
@@ -62,12 +62,12 @@ unfolding header-questions first-no
 header-accepted bytes h =
     rw (
       le-leb 5 (length bytes) (h .long-enough),
-      eq-eqb (form-field bytes) 1 (h .known-form),
+      h .known-form,
       le-leb 2 (responsiveness-field bytes) (h .responsive),
       le-leb 1 (utilization-field bytes) (h .utilized),
       le-leb (utilization-field bytes) 100 (h .percent),
       le-leb 1 (quantum-length-field bytes) (h .timed),
-      eq-eqb (length bytes) (5 + 3 * task-count bytes) (h .exact-length),
+      eq-eqb (length bytes) (5 + form-of bytes .task-bytes * task-count bytes) (h .exact-length),
     )
 
 -- ---- one task's fields: question 7
@@ -145,20 +145,26 @@ used-most zero f s = omega arith
 used-most (suc zero) f s = omega arith
 used-most (suc (suc more)) f s = omega arith
 
--- both questions of a task
+-- the questions of a task
 pub record TaskFacts (bytes : List ℕ) (t : ℕ) : Type 0 where
   pub fields : FieldFacts (count-field bytes t) (first-field bytes t) (second-field bytes t)
   pub targets : TargetFacts (task-count bytes) t (successor-fields bytes t)
+  pub lasts : 1 ≤ duration-field bytes t
 
 pub task-facts : (bytes : List ℕ) (t : ℕ) → first-no (task-questions bytes t) ≡ accepted → TaskFacts bytes t
 unfolding task-questions
 task-facts bytes t h =
     let a = ask-accepted _ _ _ h in
     let b = ask-accepted _ _ _ (a .1) in
-    record { fields = fields-facts _ _ _ (a .0); targets = target-facts _ _ _ (b .0) }
+    let c = ask-accepted _ _ _ (b .1) in
+    record { fields = fields-facts _ _ _ (a .0); targets = target-facts _ _ _ (b .0); lasts = leb-true _ _ (c .0) }
 
 pub task-accepted : (bytes : List ℕ) (t : ℕ) → TaskFacts bytes t → first-no (task-questions bytes t) ≡ accepted
-unfolding task-questions successor-fields
+unfolding task-questions successor-fields first-no
 task-accepted bytes t h =
-    two-accepted 7 8 (fields-accepted _ _ _ (h .fields))
-    (targets-accepted _ t _ (used-most (count-field bytes t) (first-field bytes t) (second-field bytes t)) (h .targets))
+    let most = used-most (count-field bytes t) (first-field bytes t) (second-field bytes t) in
+    rw (
+      fields-accepted (count-field bytes t) (first-field bytes t) (second-field bytes t) (h .fields),
+      targets-accepted (task-count bytes) t (used-fields (count-field bytes t) (first-field bytes t) (second-field bytes t)) most (h .targets),
+      le-leb 1 (duration-field bytes t) (h .lasts),
+    )

@@ -22,6 +22,7 @@ use Rattle.lists.proofs.Lists.{every-at, every-from, below-has, below-is, is-me
 use Rattle.lists.proofs.Ranges.{mem-from-one, from-one-mem, keep-some}
 use Rattle.lists.proofs.Questions.{and-then, first-no-append, first-accepted, second-accepted, ask-accepted, two-accepted, accepted-at}
 use Rattle.lists.proofs.Questions.{accepted-below}
+use Rattle.plan.proofs.Forms.{durations-length, duration-given, durations-most}
 use Rattle.plan.proofs.Facts.{tasks-of, successors-given, HeaderFacts, header-facts, header-accepted, TargetFacts, TaskFacts}
 use Rattle.plan.proofs.Facts.{task-facts, task-accepted, used-most, same-targets}
 
@@ -143,6 +144,8 @@ module _ (bytes : List ℕ) where
               preceded-twice = graph .preceded-twice;
               exit-last = graph .exit-last;
             };
+        each-lasts = durations-length bytes ∙ sym (tasks-of bytes);
+        lasting = λ t l. let b = below-count t l in rw (duration-given bytes t b) (task-part h t b .lasts);
       }
 
   pub accepted-well-formed : plan-answer bytes ≡ accepted → WellFormed bytes
@@ -202,6 +205,7 @@ module _ (bytes : List ℕ) where
               second-unused = form .second-unused t l;
             };
             targets = sound-targets (sound .graph) t l;
+            lasts = rw (duration-given bytes t l) at (sound .lasting t (rw (tasks-of bytes) l));
           }))
 
       graph : first-no (graph-questions (plan-of bytes .graph)) ≡ accepted
@@ -218,7 +222,12 @@ module _ (bytes : List ℕ) where
 pub within-bounds : (bytes : List ℕ) → WithinBounds (plan-of bytes)
 unfolding plan-of
 within-bounds bytes =
-    record { tasks-most = rw (tasks-of bytes) (omega arith); quantum-most = omega arith; responsiveness-most = omega arith }
+    record {
+      tasks-most = rw (tasks-of bytes) (omega arith);
+      quantum-most = omega arith;
+      responsiveness-most = omega arith;
+      durations-most = durations-most bytes;
+    }
 
 -- ---- every task is reached from task 0
 

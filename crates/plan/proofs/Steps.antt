@@ -3,17 +3,16 @@ use mathlib.Core.Path.{_≡_, refl, sym, _∙_, ap}
 use mathlib.Core.Bool.{true, false}
 use mathlib.Core.List.{List, flatMap, List·Memᴰ·head, List·Memᴰ·tail}
 use Prim.Native.Nat.{ℕ, zero, suc, _+_, _*_, _^_, _≤_, _<_}
-use native.Mathlib.Nat.{add-zero}
 use native.Mathlib.Numerals.{add-one}
 use native.Mathlib.Omega.{arith}
 use lib.ListN.{getD}
 use Rattle.model.specs.Tests.{below, member}
 use Rattle.model.specs.Questions.{Question, Answer, accepted, refused, first-no}
-use Rattle.model.specs.Plan.{number, header, task-bits, task-count, count-field, first-field, second-field, used-fields, successor-fields}
+use Rattle.model.specs.Plan.{number, header, form-of, task-bits, duration-field, task-count, count-field, first-field, second-field, used-fields, successor-fields}
 use Rattle.model.specs.Plan.{task-questions}
 use Rattle.memory.specs.Parts.{Parts, with-pending}
-use Rattle.plan_fields.specs.Fields.{five-bytes, three-bytes, pair-questions, TaskOf}
-use Rattle.plan.specs.Contracts.{noted, counted, Held, TaskRead}
+use Rattle.plan_fields.specs.Fields.{five-bytes, pair-questions, asked-of-task, TaskOf}
+use Rattle.plan.specs.Contracts.{noted, counted, fresh-span, Held, TaskRead}
 use Rattle.plan.specs.Contracts.{TasksRead}
 use Rattle.plan_fields.specs.declared.TaskFields.{TaskFields}
 use Rattle.plan_fields.specs.declared.PlanAnswer.{PlanAnswer}
@@ -31,16 +30,6 @@ pub header-bytes : (bytes : List ℕ) → header bytes ≡
     five-bytes (getD bytes 0 0) (getD bytes 1 0) (getD bytes 2 0) (getD bytes 3 0) (getD bytes 4 0)
 unfolding header number
 header-bytes bytes = omega arith
-
-pub task-bytes : (bytes : List ℕ) (t : ℕ) → task-bits bytes t ≡
-    three-bytes (getD bytes (5 + 3 * t) 0) (getD bytes (5 + 3 * t + 1) 0) (getD bytes (5 + 3 * t + 2) 0)
-unfolding task-bits number
-task-bytes bytes t = rw (add-zero (5 + 3 * t)) (omega arith)
-
-pub task-asked : (bytes : List ℕ) (t : ℕ) →
-    pair-questions (task-count bytes) t (count-field bytes t) (first-field bytes t) (second-field bytes t) ≡ task-questions bytes t
-unfolding pair-questions task-questions successor-fields
-task-asked bytes t = refl
 
 -- a field that is used is below N, and one that is not is 0
 module _ (n t : ℕ) (some : 1 ≤ n) where
@@ -71,7 +60,7 @@ module _ (bytes : List ℕ) (t : ℕ) (passed : first-no (task-questions bytes t
   -- one task more
   pub held-more : (p : Parts) → t < task-count bytes → Held bytes t p →
       Held bytes (t + 1)
-      (with-pending (with-fields p t (first-field bytes t) (second-field bytes t))
+      (with-pending (with-fields p t (first-field bytes t) (second-field bytes t) (fresh-span (duration-field bytes t)))
       (noted (noted (p .pending) (first-field bytes t)) (second-field bytes t)))
   unfolding successor-fields counted
   held-more p l h =
@@ -82,6 +71,7 @@ module _ (bytes : List ℕ) (t : ℕ) (passed : first-no (task-questions bytes t
             ∙ (ap (λ a. and-then a (first-no (task-questions bytes t))) (h .accepted-so-far) ∙ passed);
         first-held = stored-held (first-field bytes) (p .first) t (h .first-ends) small (h .first-held);
         second-held = stored-held (second-field bytes) (p .second) t (h .second-ends) small (h .second-held);
+        spans-held = stored-held (λ u. fresh-span (duration-field bytes u)) (p .spans) t (h .spans-ends) small (h .spans-held);
         counts-held = λ u m.
             note-successors (counted bytes t) (p .pending) (task-count bytes) t (count-field bytes t) _ _
             (h .counts-ends .places) (omega arith) (facts .fields) (facts .targets) (h .counts-held) u m
@@ -89,6 +79,7 @@ module _ (bytes : List ℕ) (t : ℕ) (passed : first-no (task-questions bytes t
         counts-small = λ u. omega (arith, twice-noted u);
         first-ends = stored-ends (first-field bytes) (p .first) t (h .first-ends) small;
         second-ends = stored-ends (second-field bytes) (p .second) t (h .second-ends) small;
+        spans-ends = stored-ends (λ u. fresh-span (duration-field bytes u)) (p .spans) t (h .spans-ends) small;
         counts-ends =
             noted-ends (task-count bytes) _ (second-field bytes t) second-inside
             (noted-ends (task-count bytes) (p .pending) (first-field bytes t) first-inside (h .counts-ends));
@@ -104,8 +95,8 @@ module _ (bytes : List ℕ) (t : ℕ) (passed : first-no (task-questions bytes t
           noted-most _ (second-field bytes t) (2 * t + 1) (noted-most (p .pending) (first-field bytes t) (2 * t) (h .counts-small))
 
 -- the counts have room for the two fields that are noted
-module _ {bytes : List ℕ} {t : ℕ} {p p-fields : Parts} (h : Held bytes t p) (small : t < 1024) (first second : ℕ)
-    (stored : p-fields ≡ with-fields p t first second) where
+module _ {bytes : List ℕ} {t : ℕ} {p p-fields : Parts} (h : Held bytes t p) (small : t < 1024) (first second its-span : ℕ)
+    (stored : p-fields ≡ with-fields p t first second its-span) where
   pub room : (s : ℕ) → getD (p-fields .pending) s 0 + 1 < 2 ^ 16
   room s = rw stored (omega (arith, h .counts-small s))
 
@@ -115,39 +106,41 @@ module _ {bytes : List ℕ} {t : ℕ} {p p-fields : Parts} (h : Held bytes t p) 
 
 -- ---- one task, as the code reads it
 
-module _ (bytes : List ℕ) (n t : ℕ) (f : TaskFields) (number : n ≡ task-count bytes)
-    (fields : TaskOf (three-bytes (getD bytes (5 + 3 * t) 0) (getD bytes (5 + 3 * t + 1) 0) (getD bytes (5 + 3 * t + 2) 0)) f) where
-  at-task : TaskOf (task-bits bytes t) f
-  at-task = rw (task-bytes bytes t) fields
+module _ (bytes : List ℕ) (n t : ℕ) (f : TaskFields) (number : n ≡ task-count bytes) (at-task : TaskOf (form-of bytes) (task-bits bytes t) f)
+  where
+    asked-as-read : first-no (asked-of-task n t f) ≡ first-no (task-questions bytes t)
+    unfolding asked-of-task pair-questions task-questions successor-fields duration-field
+    asked-as-read = rw (number, at-task .count-read, at-task .first-read, at-task .second-read, at-task .ticks-read)
 
-  asked-as-read : first-no (pair-questions n t (f .count) (f .first) (f .second)) ≡ first-no (task-questions bytes t)
-  asked-as-read =
-      rw (number, at-task .count-read, at-task .first-read, at-task .second-read) (ap first-no (task-asked bytes t))
+    ticks-are : f .ticks ≡ duration-field bytes t
+    unfolding duration-field
+    ticks-are = at-task .ticks-read
 
-  module _ (r : PlanAnswer) (answered : answer-of r ≡ first-no (pair-questions n t (f .count) (f .first) (f .second))) where
-    pub read-refused : (p : Parts) → passes (answer-of r) ≡ false → TaskRead bytes t r p
-    read-refused p fails =
-        record { answered = answered ∙ asked-as-read; held = λ passed. absurd (passes-not (answer-of r) fails passed) }
+    module _ (r : PlanAnswer) (answered : answer-of r ≡ first-no (asked-of-task n t f)) where
+      pub read-refused : (p : Parts) → passes (answer-of r) ≡ false → TaskRead bytes t r p
+      read-refused p fails =
+          record { answered = answered ∙ asked-as-read; held = λ passed. absurd (passes-not (answer-of r) fails passed) }
 
-    module _ (holds : passes (answer-of r) ≡ true) where
-      task-passed : first-no (task-questions bytes t) ≡ accepted
-      task-passed = sym (answered ∙ asked-as-read) ∙ passes-is (answer-of r) holds
+      module _ (holds : passes (answer-of r) ≡ true) where
+        task-passed : first-no (task-questions bytes t) ≡ accepted
+        task-passed = sym (answered ∙ asked-as-read) ∙ passes-is (answer-of r) holds
 
-      pub first-small : f .first < 1024
-      first-small = rw (at-task .first-read) (omega (arith, first-inside bytes t task-passed))
+        pub first-small : f .first < 1024
+        first-small = rw (at-task .first-read) (omega (arith, first-inside bytes t task-passed))
 
-      pub second-small : f .second < 1024
-      second-small = rw (at-task .second-read) (omega (arith, second-inside bytes t task-passed))
+        pub second-small : f .second < 1024
+        second-small = rw (at-task .second-read) (omega (arith, second-inside bytes t task-passed))
 
-      -- the fields stored, and then noted
-      pub read-passed : (p p-fields p-1 p-2 : Parts) → t < n → Held bytes t p → p-fields ≡ with-fields p t (f .first) (f .second) →
-          p-1 ≡ with-pending p-fields (noted (p-fields .pending) (f .first)) → p-2 ≡ with-pending p-1 (noted (p-1 .pending) (f .second)) →
-          TaskRead bytes t r p-2
-      read-passed p p-fields p-1 p-2 l h e e-1 e-2 =
-          record {
-            answered = answered ∙ asked-as-read;
-            held = λ _. rw (e-2, e-1, e, at-task .first-read, at-task .second-read) (held-more bytes t task-passed p (omega arith) h);
-          }
+        -- the fields and the span stored, and then the fields noted
+        pub read-passed : (p p-fields p-1 p-2 : Parts) → t < n → Held bytes t p →
+            p-fields ≡ with-fields p t (f .first) (f .second) (fresh-span (f .ticks)) →
+            p-1 ≡ with-pending p-fields (noted (p-fields .pending) (f .first)) → p-2 ≡ with-pending p-1 (noted (p-1 .pending) (f .second)) →
+            TaskRead bytes t r p-2
+        read-passed p p-fields p-1 p-2 l h e e-1 e-2 =
+            record {
+              answered = answered ∙ asked-as-read;
+              held = λ _. rw (e-2, e-1, e, at-task .first-read, at-task .second-read, ticks-are) (held-more bytes t task-passed p (omega arith) h);
+            }
 
 -- ---- all tasks
 

@@ -14,23 +14,41 @@ use lib.Seq.{getD-set-same, getD-set-other}
 use Rattle.model.specs.Tests.{below, every, member}
 use Rattle.model.specs.Plan.{used-fields}
 use Rattle.memory.specs.Parts.{Parts, region, parts, with-pending}
-use Rattle.memory.proofs.Regions.{store-inside, store-above, store-below, store-pending, first-at, pending-at}
+use Rattle.memory.proofs.Regions.{store-inside, store-above, store-below, store-pending, store-spans, first-at, pending-at}
 use Rattle.plan.specs.Headings.{Ends}
 use Rattle.plan.specs.Contracts.{noted, one-or-two, followed}
 use Rattle.lists.proofs.Lists.{stored-most}
 use Rattle.lists.proofs.Ranges.{every-below, every-from-one}
 use Rattle.plan.proofs.Facts.{FieldFacts, TargetFacts}
 
--- ---- the two fields of the task t stored
+-- ---- the two fields of the task t and its span stored
 
-abbrev pub with-fields : Parts → ℕ → ℕ → ℕ → Parts
-with-fields p t first second =
-    record { first = set (p .first) t first; second = set (p .second) t second; next = p .next; pending = p .pending; ends = p .ends }
+abbrev pub with-fields : Parts → ℕ → ℕ → ℕ → ℕ → Parts
+with-fields p t first second its-span =
+    record {
+      first = set (p .first) t first;
+      second = set (p .second) t second;
+      next = p .next;
+      pending = p .pending;
+      ends = p .ends;
+      spans = set (p .spans) t its-span;
+    }
 
-pub fields-stored : (memory : List ℕ) (t first second : ℕ) → t < 1024 →
-    parts (set (set memory t first) (1024 + t) second) ≡ with-fields (parts memory) t first second
+abbrev with-two : Parts → ℕ → ℕ → ℕ → Parts
+with-two p t first second =
+    record {
+      first = set (p .first) t first;
+      second = set (p .second) t second;
+      next = p .next;
+      pending = p .pending;
+      ends = p .ends;
+      spans = p .spans;
+    }
+
+two-stored : (memory : List ℕ) (t first second : ℕ) → t < 1024 →
+    parts (set (set memory t first) (1024 + t) second) ≡ with-two (parts memory) t first second
 unfolding parts
-fields-stored memory t first second inside =
+two-stored memory t first second inside =
     let first-store : region 0 1024 (set memory t first) ≡ set (region 0 1024 memory) t first =
     ap (λ i. region 0 1024 (set memory i first)) (sym (zero-add t)) ∙ store-inside 0 1024 memory t first inside in
     let below-it = set memory t first in
@@ -40,12 +58,19 @@ fields-stored memory t first second inside =
       store-below 2048 1024 below-it (1024 + t) second (omega arith),
       store-below 3072 1024 below-it (1024 + t) second (omega arith),
       store-below 4096 256 below-it (1024 + t) second (omega arith),
+      store-below 4352 1024 below-it (1024 + t) second (omega arith),
       first-store,
       store-below 1024 1024 memory t first (omega arith),
       store-below 2048 1024 memory t first (omega arith),
       store-below 3072 1024 memory t first (omega arith),
       store-below 4096 256 memory t first (omega arith),
+      store-below 4352 1024 memory t first (omega arith),
     )
+
+pub fields-stored : (memory : List ℕ) (t first second its-span : ℕ) → t < 1024 →
+    parts (set (set (set memory t first) (1024 + t) second) (4352 + t) its-span) ≡ with-fields (parts memory) t first second its-span
+fields-stored memory t first second its-span inside =
+    store-spans (set (set memory t first) (1024 + t) second) t its-span inside ∙ rw (two-stored memory t first second inside)
 
 -- ---- a field stored at t
 

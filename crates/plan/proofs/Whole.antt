@@ -14,10 +14,11 @@ use Rattle.model.specs.Tests.{below, every, keep, is-empty, member}
 use Rattle.model.specs.Questions.{first-no}
 use Rattle.model.specs.Plan.{tasks, successors-of, predecessors, responsiveness-field, utilization-field, quantum-length-field, task-count}
 use Rattle.model.specs.Plan.{count-field, first-field, second-field, used-fields, successor-fields, plan-of, task-questions, all-preceded}
-use Rattle.model.specs.Plan.{one-exit}
+use Rattle.model.specs.Plan.{one-exit, duration-field}
 use Rattle.lists.proofs.Lists.{alike, below-is, is-member}
-use Rattle.memory.specs.Parts.{Parts, region, parts, with-pending}
-use Rattle.memory.specs.Graphs.{shown, successors-at, successors-view}
+use Rattle.memory.specs.Parts.{Parts, region, parts, with-pending, ticks-at, left-at}
+use Rattle.memory.specs.Graphs.{shown, successors-at, successors-view, durations-view}
+use Rattle.memory.specs.View.{left-view}
 use Rattle.memory.proofs.Regions.{region-at, region-length}
 use Rattle.lists.proofs.Tables.{table-same}
 use Rattle.plan.specs.declared.Heading.{Heading}
@@ -26,6 +27,7 @@ use Rattle.plan.specs.Contracts.{counted, Held, one-or-two, followed, no
 use Rattle.plan.specs.Promise.{Holds}
 use Rattle.lists.proofs.Ranges.{from-one-mem, every-cong, every-below, keep-cong, keep-some}
 use Rattle.lists.proofs.Questions.{accepted-at}
+use Rattle.plan.proofs.Forms.{duration-most}
 use Rattle.plan.proofs.Facts.{tasks-of, successors-given, FieldFacts, TargetFacts, TaskFacts, task-facts}
 
 -- ---- the successors that two fields show
@@ -113,6 +115,20 @@ module _ (bytes : List ℕ) (p : Parts) (held : Held bytes (task-count bytes) p)
   unfolding successors-view
   successors-are = table-same (successor-fields bytes) (successors-at (p .first) (p .second)) (task-count bytes) successors-shown
 
+  -- ---- the ticks, all of them left
+
+  durations-are : durations-view (p .spans) (task-count bytes) ≡ map (duration-field bytes) (below (task-count bytes))
+  unfolding durations-view
+  durations-are =
+      table-same (duration-field bytes) (ticks-at (p .spans)) (task-count bytes)
+      (λ t l. rw (held .spans-held t l) (omega (arith, duration-most bytes t)))
+
+  left-are : left-view (p .spans) (task-count bytes) ≡ map (duration-field bytes) (below (task-count bytes))
+  unfolding left-view
+  left-are =
+      table-same (duration-field bytes) (left-at (p .spans)) (task-count bytes)
+      (λ t l. rw (held .spans-held t l) (omega (arith, duration-most bytes t)))
+
   exit-test : ℕ → Bool
   exit-test t = Bool·beq (is-empty (successors-of (plan-of bytes .graph) t)) (eqb (t + 1) (task-count bytes))
 
@@ -161,11 +177,13 @@ module _ (bytes : List ℕ) (p : Parts) (held : Held bytes (task-count bytes) p)
   unfolding plan-view plan-of
   memory-holds r memory e e-r e-u e-q e-n =
       record {
-        shows = rw (e, e-r, e-u, e-q, e-n, successors-are);
+        shows = rw (e, e-r, e-u, e-q, e-n, successors-are, durations-are);
+        untouched = rw (e, e-n) left-are;
         preceded = λ t l. rw e (counts-are t);
         first-ends = rw (e, e-n) (held .first-ends);
         second-ends = rw (e, e-n) (held .second-ends);
         pending-ends = rw (e, e-n) counts-end;
+        spans-ends = rw (e, e-n) (held .spans-ends);
         no-links = rw e (held .no-links);
         no-deques = rw e (held .no-deques);
       }
@@ -192,12 +210,14 @@ nothing-held bytes =
       second-held = λ t l. absurd (omega arith);
       counts-held = λ t _. no-count t;
       counts-small = λ t. omega (arith, no-count t);
-      first-ends = zeros-end 0 _ (region-zeros 0 1024 4352 (omega arith));
-      second-ends = zeros-end 0 _ (region-zeros 1024 1024 4352 (omega arith));
-      counts-ends = zeros-end (task-count bytes) _ (region-zeros 3072 1024 4352 (omega arith));
-      no-links = region-zeros 2048 1024 4352 (omega arith);
-      no-deques = region-zeros 4096 256 4352 (omega arith);
+      first-ends = zeros-end 0 _ (region-zeros 0 1024 5376 (omega arith));
+      second-ends = zeros-end 0 _ (region-zeros 1024 1024 5376 (omega arith));
+      spans-held = λ t l. absurd (omega arith);
+      spans-ends = zeros-end 0 _ (region-zeros 4352 1024 5376 (omega arith));
+      counts-ends = zeros-end (task-count bytes) _ (region-zeros 3072 1024 5376 (omega arith));
+      no-links = region-zeros 2048 1024 5376 (omega arith);
+      no-deques = region-zeros 4096 256 5376 (omega arith);
     }
   where
     no-count : (t : ℕ) → getD (region 3072 1024 no-memory) t 0 ≡ 0
-    no-count t = ap (λ l. getD l t 0) (region-zeros 3072 1024 4352 (omega arith)) ∙ alike 1024 t 0
+    no-count t = ap (λ l. getD l t 0) (region-zeros 3072 1024 5376 (omega arith)) ∙ alike 1024 t 0

@@ -1,15 +1,16 @@
 -- What the inner functions ask and promise, over plain lists and numbers.
 use mathlib.Core.Path.{_≡_}
-use mathlib.Core.Bool.{Bool, not, _&&_}
+use mathlib.Core.Bool.{Bool, true, not, _&&_}
 use mathlib.Core.List.{List, flatMap}
 use Prim.Native.Nat.{ℕ, _+_, _*_, _≤_, _<_}
 use lib.Dec.{leb, eqb}
 use lib.ListN.{length, getD, set, replicate}
 use Rattle.model.specs.Tests.{below, keep, member}
 use Rattle.model.specs.Questions.{accepted, refused, first-no}
-use Rattle.model.specs.Plan.{header, task-count, first-field, second-field, successor-fields}
+use Rattle.model.specs.Plan.{forms, is-form, form-of, form-field, header, task-count, first-field, second-field, duration-field}
+use Rattle.model.specs.Plan.{successor-fields}
 use Rattle.model.specs.Plan.{task-questions, header-questions, plan-answer}
-use Rattle.memory.specs.Parts.{Parts, memory-size}
+use Rattle.memory.specs.Parts.{Parts, memory-size, span}
 use Rattle.plan_fields.specs.declared.Header.{Header}
 use Rattle.plan_fields.specs.declared.PlanAnswer.{PlanAnswer}
 use Rattle.plan_fields.specs.Answers.{answer-of}
@@ -33,26 +34,39 @@ noted counts s = set counts s (getD counts s 0 + 1)
 unfoldable pub counted : List ℕ → ℕ → ℕ → ℕ
 counted bytes i t = length (keep (λ p. member t (successor-fields bytes p)) (below i))
 
+-- what `spans` holds of a task of which no tick is done
+abbrev pub fresh-span : ℕ → ℕ
+fresh-span duration = span * duration + duration
+
 -- the tasks below i are read and accepted, and the parts hold their fields and nothing else, but for the count of task 0: there the
 -- unused fields are noted
 pub record Held (bytes : List ℕ) (i : ℕ) (p : Parts) : Type 0 where
   pub accepted-so-far : first-no (flatMap (task-questions bytes) (below i)) ≡ accepted
   pub first-held : (t : ℕ) → t < i → getD (p .first) t 0 ≡ first-field bytes t
   pub second-held : (t : ℕ) → t < i → getD (p .second) t 0 ≡ second-field bytes t
+  pub spans-held : (t : ℕ) → t < i → getD (p .spans) t 0 ≡ fresh-span (duration-field bytes t)
   pub counts-held : (t : ℕ) → 1 ≤ t → getD (p .pending) t 0 ≡ counted bytes i t
   -- each task notes two fields
   pub counts-small : (t : ℕ) → getD (p .pending) t 0 ≤ 2 * i
   pub first-ends : Ends i (p .first)
   pub second-ends : Ends i (p .second)
+  pub spans-ends : Ends i (p .spans)
   pub counts-ends : Ends (task-count bytes) (p .pending)
   pub no-links : p .next ≡ replicate 1024 0
   pub no-deques : p .ends ≡ replicate 256 0
 
 -- ---- what the functions over the memory ask and promise
 
+-- the form is known, and the bytes of the task t, so many, are there
+pub record FieldsDue (bytes : List ℕ) (t width : ℕ) : Type 0 where
+  pub known : is-form (form-field bytes) forms ≡ true
+  pub its-width : width ≡ form-of bytes .task-bytes
+  pub there : 5 + width * t + width ≤ length bytes
+
 -- the header is accepted, and the tasks below t are read
 pub record Due (bytes : List ℕ) (n t : ℕ) (p : Parts) : Type 0 where
-  pub whole : length bytes ≡ 5 + 3 * n
+  pub known : is-form (form-field bytes) forms ≡ true
+  pub whole : length bytes ≡ 5 + form-of bytes .task-bytes * n
   pub number : n ≡ task-count bytes
   pub held : Held bytes t p
 

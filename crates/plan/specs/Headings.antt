@@ -5,7 +5,7 @@ use Prim.Native.Nat.{ℕ, _≤_}
 use lib.ListN.{length, getD}
 use Rattle.model.specs.Plan.{Plan}
 use Rattle.memory.specs.Parts.{Parts}
-use Rattle.memory.specs.Graphs.{graph}
+use Rattle.memory.specs.Graphs.{graph, durations-view}
 use Rattle.plan.specs.declared.Heading.{Heading}
 
 unfoldable pub plan-view : Heading → Parts → Plan
@@ -13,6 +13,7 @@ plan-view r p =
     record {
       terms = record { responsiveness = r .responsiveness; utilization = r .utilization; quantum-length = r .«quantum_length» };
       graph = graph p (r .tasks);
+      durations = durations-view (p .spans) (r .tasks);
     }
 
 -- a part of 1024 places with 0 at n and past it

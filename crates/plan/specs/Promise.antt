@@ -6,18 +6,22 @@ use lib.ListN.{length, getD, replicate}
 use Rattle.model.specs.Questions.{accepted, refused}
 use Rattle.model.specs.Plan.{predecessors, plan-of, plan-answer}
 use Rattle.memory.specs.Parts.{parts}
+use Rattle.memory.specs.View.{left-view}
 use Rattle.plan.specs.declared.Heading.{Heading}
 use Rattle.plan_fields.specs.declared.PlanAnswer.{PlanAnswer}
 use Rattle.plan_fields.specs.Answers.{answer-of}
 use Rattle.plan.specs.Headings.{plan-view, Ends}
 
--- the heading and the memory hold the plan of the bytes, how many predecessors each task has, 0 at and past N, and no link and no deque
+-- the heading and the memory hold the plan of the bytes, all ticks of each task as left, how many predecessors it has, 0 at and past N, and
+-- no link and no deque
 pub record Holds (bytes : List ℕ) (r : Heading) (memory : List ℕ) : Type 0 where
   pub shows : plan-view r (parts memory) ≡ plan-of bytes
+  pub untouched : left-view (parts memory .spans) (r .tasks) ≡ plan-of bytes .durations
   pub preceded : (t : ℕ) → t < r .tasks → getD (parts memory .pending) t 0 ≡ length (predecessors (plan-of bytes .graph) t)
   pub first-ends : Ends (r .tasks) (parts memory .first)
   pub second-ends : Ends (r .tasks) (parts memory .second)
   pub pending-ends : Ends (r .tasks) (parts memory .pending)
+  pub spans-ends : Ends (r .tasks) (parts memory .spans)
   pub no-links : parts memory .next ≡ replicate 1024 0
   pub no-deques : parts memory .ends ≡ replicate 256 0
 

@@ -1,17 +1,19 @@
 -- The plan rules as plain facts. What the plan itself shows of them is model's SoundPlan; what stands here is said of the bytes.
 use mathlib.Core.Path.{_≡_}
+use mathlib.Core.Bool.{true}
 use mathlib.Core.List.{List, List·Memᴰ}
 use Prim.Native.Nat.{ℕ, _+_, _*_, _≤_, _<_}
 use lib.ListN.{length}
-use Rattle.model.specs.Plan.{Graph, Plan, most-tasks, longest-quantum, tasks, successors-of}
+use Rattle.model.specs.Plan.{Graph, Plan, most-tasks, longest-quantum, longest-duration, tasks, successors-of, duration-of}
+use Rattle.model.specs.Plan.{forms, is-form, form-of}
 use Rattle.model.specs.Plan.{form-field, task-count, count-field, first-field, second-field, plan-of}
 use Rattle.model.specs.Statements.{SoundPlan}
 
--- the bytes are those of a plan: long enough, the known form, no byte too few or too many, counts of at most 2, unused fields 0
+-- the bytes are those of a plan: long enough, a known form, no byte too few or too many, counts of at most 2, unused fields 0
 pub record WellFormed (bytes : List ℕ) : Type 0 where
   pub long-enough : 5 ≤ length bytes
-  pub known-form : form-field bytes ≡ 1
-  pub exact-length : length bytes ≡ 5 + 3 * task-count bytes
+  pub known-form : is-form (form-field bytes) forms ≡ true
+  pub exact-length : length bytes ≡ 5 + form-of bytes .task-bytes * task-count bytes
   pub two-fields : (t : ℕ) → t < task-count bytes → count-field bytes t ≤ 2
   pub first-unused : (t : ℕ) → t < task-count bytes → count-field bytes t ≡ 0 → first-field bytes t ≡ 0
   pub second-unused : (t : ℕ) → t < task-count bytes → count-field bytes t ≤ 1 → second-field bytes t ≡ 0
@@ -26,6 +28,7 @@ pub record WithinBounds (plan : Plan) : Type 0 where
   pub tasks-most : tasks (plan .graph) ≤ most-tasks
   pub quantum-most : plan .terms .quantum-length ≤ longest-quantum
   pub responsiveness-most : plan .terms .responsiveness ≤ 7
+  pub durations-most : (t : ℕ) → duration-of plan t ≤ longest-duration
 
 -- a path of successors from one task to another
 pub data Leads (graph : Graph) (start : ℕ) : ℕ → Type 0 where

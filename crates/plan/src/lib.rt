@@ -2,12 +2,16 @@
 use memory::Memory;
 use plan_fields::Header;
 use plan_fields::PlanAnswer;
+use plan_fields::TaskFields;
 ghost use mathlib.Core.Path.{_≡_};
 ghost use Prim.Native.Nat.{_+_, _-_, _^_, _≤_, _<_};
 ghost use lib.ListN.{getD, drop};
 ghost use Rattle.model.specs.Tests.{below, every};
 ghost use Rattle.memory.specs.Parts.{parts, parts-before, parts-after, with-pending};
-ghost use Rattle.plan.specs.Contracts.{noted, Due, TaskRead, TasksRead, one-or-two, followed, HeaderRead, HeadingRead, no-memory};
+ghost use Rattle.model.specs.Plan.{form-of, task-bits};
+ghost use Rattle.plan_fields.specs.Fields.{TaskOf};
+ghost use Rattle.plan.specs.Contracts.{noted, FieldsDue, Due, TaskRead, TasksRead, one-or-two, followed, HeaderRead, HeadingRead};
+ghost use Rattle.plan.specs.Contracts.{no-memory};
 ghost use Rattle.plan.specs.Promise.{no-heading, RightHeading};
 
 // The answer, and the plan's numbers where it is Accepted; zeros beside a refusal.
@@ -28,18 +32,32 @@ fn note(memory: &mut Memory, s: usize)
     memory[at] = memory[at] + 1;
 }
 
-// Reads the task t of n: its questions, and where they pass its fields into the memory.
-fn read_task(bytes: &[u8], t: usize, n: usize, memory: &mut Memory) -> PlanAnswer
-    requires { ⌜ t < n ⌝ ∗ ⌜ Due (now bytes) n t (parts (now memory)) ⌝ }
+// The fields of the task t, of so many bytes as each task of the plan's form has.
+fn fields_of(bytes: &[u8], t: usize, width: usize) -> TaskFields
+    requires { ⌜ FieldsDue (now bytes) t width ⌝ }
+    ensures { λ r. ⌜ TaskOf (form-of (now (bytes .entry))) (task-bits (now (bytes .entry)) t) r ⌝ }
+{
+    let at = 5 + width * t;
+    if width == 4 {
+        return plan_fields::lasting_of(bytes[at], bytes[at + 1], bytes[at + 2], bytes[at + 3]);
+    }
+    plan_fields::task_of(bytes[at], bytes[at + 1], bytes[at + 2])
+}
+
+// Reads the task t of n: its questions, and where they pass its fields and its ticks, all of them left, into the memory.
+fn read_task(bytes: &[u8], t: usize, n: usize, width: usize, memory: &mut Memory) -> PlanAnswer
+    requires { ⌜ t < n ⌝ ∗ ⌜ width ≡ form-of (now bytes) .task-bytes ⌝ ∗ ⌜ Due (now bytes) n t (parts (now memory)) ⌝ }
     ensures { λ r. ⌜ TaskRead (now (bytes .entry)) t r (parts-after memory) ⌝ }
 {
-    let at = 5 + 3 * t;
-    let f = plan_fields::task_of(bytes[at], bytes[at + 1], bytes[at + 2]);
+    let f = fields_of(bytes, t, width);
     let answer = plan_fields::task_answer(f, t, n);
     if plan_fields::passed(answer) {
         let second_at = memory::SECOND + t;
+        let span_at = memory::SPANS + t;
+        let ticks = f.ticks as u16;
         memory[t] = f.first as u16;
         memory[second_at] = f.second as u16;
+        memory[span_at] = memory::SPAN * ticks + ticks;
         note(memory, f.first);
         note(memory, f.second);
     }
@@ -47,13 +65,13 @@ fn read_task(bytes: &[u8], t: usize, n: usize, memory: &mut Memory) -> PlanAnswe
 }
 
 // Reads all n tasks, in rising order, and stops at the first "no". The memory comes with zeros.
-fn read_tasks(bytes: &[u8], n: usize, memory: &mut Memory) -> PlanAnswer
-    requires { ⌜ Due (now bytes) n 0 (parts (now memory)) ⌝ }
+fn read_tasks(bytes: &[u8], n: usize, width: usize, memory: &mut Memory) -> PlanAnswer
+    requires { ⌜ width ≡ form-of (now bytes) .task-bytes ⌝ ∗ ⌜ Due (now bytes) n 0 (parts (now memory)) ⌝ }
     ensures { λ r. ⌜ TasksRead (now (bytes .entry)) n r (parts-after memory) ⌝ }
 {
     let mut t = 0;
     while t < n {
-        let answer = read_task(bytes, t, n, memory);
+        let answer = read_task(bytes, t, n, width, memory);
         if plan_fields::passed(answer) {
             t += 1;
         } else {
@@ -111,7 +129,8 @@ fn read_graph(bytes: &[u8], h: Header, memory: &mut Memory) -> Heading
     ensures { λ r. ⌜ HeadingRead (now (bytes .entry)) r (now (memory .exit)) ⌝ }
 {
     let n = h.tasks;
-    let answer = read_tasks(bytes, n, memory);
+    let width = plan_fields::task_bytes(h.form);
+    let answer = read_tasks(bytes, n, width, memory);
     if !plan_fields::passed(answer) {
         return refusal(answer);
     }

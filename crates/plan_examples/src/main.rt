@@ -1,5 +1,6 @@
 // Runs the paper's plan examples, and others that tell the questions apart, and prints what reading found: the answer's number and, for
-// an accepted plan, R, D, L, N and of the first four tasks, or the only one, the two fields and how many predecessors it has.
+// an accepted plan, R, D, L, N and of the first four tasks, or the only one, the two fields, how many predecessors it has, its ticks and
+// the ticks that it has left.
 use memory::Memory;
 
 fn digit(n: u16) {
@@ -28,25 +29,32 @@ fn put_after(mark: &[u8], n: u16) {
     put(n);
 }
 
-fn show_task(first: u16, second: u16, predecessors: u16) {
+fn show_task(first: u16, second: u16, predecessors: u16, span: u16) {
     put_after(b" | ", first);
     put_after(b" ", second);
     put_after(b" ", predecessors);
+    put_after(b" ", span / memory::SPAN);
+    put_after(b" ", span % memory::SPAN);
 }
 
 fn show_tasks(memory: &Memory, tasks: u16) {
-    show_task(memory[0], memory[1024], memory[memory::PENDING]);
+    show_task(
+        memory[0],
+        memory[memory::SECOND],
+        memory[memory::PENDING],
+        memory[memory::SPANS],
+    );
     if tasks > 3 {
-        show_task(memory[1], memory[1025], memory[3073]);
-        show_task(memory[2], memory[1026], memory[3074]);
-        show_task(memory[3], memory[1027], memory[3075]);
+        show_task(memory[1], memory[1025], memory[3073], memory[4353]);
+        show_task(memory[2], memory[1026], memory[3074], memory[4354]);
+        show_task(memory[3], memory[1027], memory[3075], memory[4355]);
     }
 }
 
 fn show(name: &[u8], bytes: &[u8]) {
     io::write_all(1, name);
     // what it had before is not seen
-    let mut memory = [9u16; 4352];
+    let mut memory = [9u16; memory::MEMORY_SIZE];
     let heading = plan::read_into(bytes, &mut memory);
     let answer = heading.answer;
     put_after(b": ", plan_fields::number(answer) as u16);
@@ -98,8 +106,12 @@ fn header_rows() {
     show(b"no byte", b"");
     show(b"four bytes", b"\x15\x40\x00\x08");
     show(
-        b"form 2",
-        b"\x25\x40\x00\x08\x03\x80\x08\x02\x40\x18\x00\x40\x18\x00\x00\x00\x00",
+        b"form 0",
+        b"\x05\x40\x00\x08\x03\x80\x08\x02\x40\x18\x00\x40\x18\x00\x00\x00\x00",
+    );
+    show(
+        b"form 3",
+        b"\x35\x40\x00\x08\x03\x80\x08\x02\x40\x18\x00\x40\x18\x00\x00\x00\x00",
     );
     show(
         b"D = 0",
@@ -167,9 +179,38 @@ fn graph_rows() {
     );
 }
 
+// Form 2: question 6, and question 28 and its order.
+fn lasting_rows() {
+    show(
+        b"form 2 with 2, 3, 1 and 255 ticks",
+        b"\x25\x40\x00\x08\x03\x80\x08\x02\x02\x40\x18\x00\x03\x40\x18\x00\x01\x00\x00\x00\xff",
+    );
+    show(
+        b"form 2 with the bytes of form 1",
+        b"\x25\x40\x00\x08\x03\x80\x08\x02\x40\x18\x00\x40\x18\x00\x00\x00\x00",
+    );
+    show(
+        b"form 1 with the bytes of form 2",
+        b"\x15\x40\x00\x08\x03\x80\x08\x02\x02\x40\x18\x00\x03\x40\x18\x00\x01\x00\x00\x00\xff",
+    );
+    show(
+        b"a task of 0 ticks",
+        b"\x25\x40\x00\x08\x03\x80\x08\x02\x02\x40\x18\x00\x03\x40\x18\x00\x01\x00\x00\x00\x00",
+    );
+    show(
+        b"8 of task 1 before its 28",
+        b"\x25\x40\x00\x08\x03\x80\x08\x02\x02\x40\x08\x00\x00\x40\x18\x00\x01\x00\x00\x00\xff",
+    );
+    show(
+        b"28 of task 1 before 7 of task 2",
+        b"\x25\x40\x00\x08\x03\x80\x08\x02\x02\x40\x18\x00\x00\xc0\x18\x00\x01\x00\x00\x00\xff",
+    );
+}
+
 fn main() {
     document_rows();
     header_rows();
     task_rows();
     graph_rows();
+    lasting_rows();
 }

@@ -4,7 +4,7 @@ use Rattle.model.specs.Questions.{Answer, accepted, refused}
 use Rattle.plan_fields.specs.declared.PlanAnswer.{PlanAnswer}
 use Rattle.plan_fields.specs.declared.PlanAnswer.the-variants.{Accepted, Short, UnknownForm, LowResponsiveness, BadUtilization}
 use Rattle.plan_fields.specs.declared.PlanAnswer.the-variants.{NoQuantum, WrongLength, BadFields, BadSuccessors, BadPredecessors}
-use Rattle.plan_fields.specs.declared.PlanAnswer.the-variants.{LooseEnd}
+use Rattle.plan_fields.specs.declared.PlanAnswer.the-variants.{LooseEnd, NoTicks}
 
 abbrev pub answer-of : PlanAnswer → Answer
 answer-of Accepted = accepted
@@ -18,6 +18,7 @@ answer-of BadFields = refused 7
 answer-of BadSuccessors = refused 8
 answer-of BadPredecessors = refused 9
 answer-of LooseEnd = refused 10
+answer-of NoTicks = refused 28
 
 -- it is acceptance
 abbrev pub passes : Answer → Bool

@@ -1,11 +1,13 @@
-// The fields of a plan's header and of a task, taken from their bytes, and the questions that are asked of them: 2 to 8.
+// The fields of a plan's header and of a task, taken from their bytes, and the questions that are asked of them: 2 to 8, and 28.
 ghost use mathlib.Core.Path.{_≡_};
 ghost use mathlib.Core.Bool.{cond, _&&_};
 ghost use Prim.Native.Nat.{_≤_};
 ghost use lib.Dec.{leb, eqb};
 ghost use Rattle.model.specs.Questions.{first-no, answer-number};
+ghost use Rattle.model.specs.Plan.{forms, is-form, form-with};
 ghost use Rattle.plan_fields.specs.Answers.{answer-of, passes};
-ghost use Rattle.plan_fields.specs.Fields.{HeaderOf, five-bytes, TaskOf, three-bytes, field-questions, pair-questions};
+ghost use Rattle.plan_fields.specs.Fields.{HeaderOf, five-bytes, TaskOf, form-1, three-bytes, form-2, four-bytes};
+ghost use Rattle.plan_fields.specs.Fields.{field-questions, pair-questions, asked-of-task};
 
 // One case for each number of the paper, which answer-of gives.
 pub enum PlanAnswer {
@@ -20,6 +22,7 @@ pub enum PlanAnswer {
     BadSuccessors,
     BadPredecessors,
     LooseEnd,
+    NoTicks,
 }
 
 // The header's fields, with the number of tasks itself and not one less.
@@ -31,11 +34,12 @@ pub struct Header {
     pub tasks: usize,
 }
 
-// A task's fields.
+// A task's fields, and its ticks.
 pub struct TaskFields {
     pub count: usize,
     pub first: usize,
     pub second: usize,
+    pub ticks: u8,
 }
 
 // The paper's number of a refusal, and 0 for acceptance.
@@ -54,6 +58,7 @@ pub fn number(answer: PlanAnswer) -> u8
         PlanAnswer::BadSuccessors => 8,
         PlanAnswer::BadPredecessors => 9,
         PlanAnswer::LooseEnd => 10,
+        PlanAnswer::NoTicks => 28,
     }
 }
 
@@ -81,14 +86,34 @@ pub fn header_of(a: u8, b: u8, c: u8, d: u8, e: u8) -> Header
     }
 }
 
+// Is there a plan form of this number?
+fn known_form(form: usize) -> bool
+    ensures { λ r. ⌜ r ≡ is-form form forms ⌝ }
+{
+    (form == 1) | (form == 2)
+}
+
+// The bytes of a task of this plan form; 0 where there is none of the number.
+pub fn task_bytes(form: usize) -> usize
+    ensures { λ r. ⌜ r ≡ form-with form forms .task-bytes ⌝ }
+{
+    if form == 1 {
+        return 3;
+    }
+    if form == 2 {
+        return 4;
+    }
+    0
+}
+
 // Questions 2 to 6.
 pub fn header_answer(h: Header, size: usize) -> PlanAnswer
     requires { ⌜ h .tasks ≤ 1024 ⌝ }
     ensures { λ r. ⌜ answer-of r ≡
         first-no (field-questions (h .form) (h .responsiveness) (h .utilization) (h .quantum) (h .tasks) size) ⌝ }
 {
-    let whole = 5 + 3 * h.tasks;
-    if h.form != 1 {
+    let whole = 5 + task_bytes(h.form) * h.tasks;
+    if !known_form(h.form) {
         return PlanAnswer::UnknownForm;
     }
     if h.responsiveness < 2 {
@@ -109,14 +134,27 @@ pub fn header_answer(h: Header, size: usize) -> PlanAnswer
     PlanAnswer::Accepted
 }
 
-// A task's three bytes taken apart.
+// The bytes of a task of form 1 taken apart: it lasts one tick.
 pub fn task_of(a: u8, b: u8, c: u8) -> TaskFields
-    ensures { λ r. ⌜ TaskOf (three-bytes a b c) r ⌝ }
+    ensures { λ r. ⌜ TaskOf form-1 (three-bytes a b c) r ⌝ }
 {
     TaskFields {
         count: (a / 64) as usize,
         first: (a as usize) % 64 * 32 + (b as usize) / 8,
         second: (b as usize) % 8 * 256 + (c as usize),
+        ticks: 1,
+    }
+}
+
+// The bytes of a task of form 2 taken apart: the last one is its ticks.
+pub fn lasting_of(a: u8, b: u8, c: u8, d: u8) -> TaskFields
+    ensures { λ r. ⌜ TaskOf form-2 (four-bytes a b c d) r ⌝ }
+{
+    TaskFields {
+        count: (a / 64) as usize,
+        first: (a as usize) % 64 * 32 + (b as usize) / 8,
+        second: (b as usize) % 8 * 256 + (c as usize),
+        ticks: d,
     }
 }
 
@@ -144,7 +182,7 @@ fn fits(f: TaskFields, t: usize, n: usize) -> bool
 }
 
 // Questions 7 and 8 of the task t of n.
-pub fn task_answer(f: TaskFields, t: usize, n: usize) -> PlanAnswer
+fn fields_answer(f: TaskFields, t: usize, n: usize) -> PlanAnswer
     ensures { λ r. ⌜ answer-of r ≡ first-no (pair-questions n t (f .count) (f .first) (f .second)) ⌝ }
 {
     if fits(f, t, n) {
@@ -166,4 +204,18 @@ pub fn task_answer(f: TaskFields, t: usize, n: usize) -> PlanAnswer
         return PlanAnswer::BadFields;
     }
     PlanAnswer::Accepted
+}
+
+// Questions 7, 8 and 28 of the task t of n.
+pub fn task_answer(f: TaskFields, t: usize, n: usize) -> PlanAnswer
+    ensures { λ r. ⌜ answer-of r ≡ first-no (asked-of-task n t f) ⌝ }
+{
+    let answer = fields_answer(f, t, n);
+    if passed(answer) {
+        if f.ticks == 0 {
+            return PlanAnswer::NoTicks;
+        }
+        return PlanAnswer::Accepted;
+    }
+    answer
 }

@@ -21,7 +21,7 @@ add-at words place n = set words place (word words place + n)
 -- ---- the words after each step
 
 abbrev with-done : Tally → List ℕ → List ℕ
-with-done t words = add-at words 2 (t .works .0)
+with-done t words = add-at words 2 (t .completed)
 
 abbrev with-usage : Tally → List ℕ → List ℕ
 with-usage t words = add-at (with-done t words) 7 (t .works .0 + t .mugs .0)
@@ -61,22 +61,22 @@ module _ (all : ℕ) (t : Tally) {words : List ℕ} (a : Addable words all t) wh
 
   -- ---- as the code comes to them: what is read fits with what is added
 
-  -- the numbers of work cycles and of work and mug cycles
-  module _ {n u : ℕ} (number : n ≡ t .works .0) (usage : u ≡ t .works .0 + t .mugs .0) where
+  -- the number of work and mug cycles
+  module _ {u : ℕ} (usage : u ≡ t .works .0 + t .mugs .0) where
     abbrev done-stored : List ℕ
-    done-stored = set words 2 (word words 2 + n)
+    done-stored = set words 2 (word words 2 + t .completed)
 
     abbrev usage-stored : List ℕ
     usage-stored = set done-stored 7 (word done-stored 7 + u)
 
     pub usage-fits : word done-stored 7 + u < 2 ^ 64
-    usage-fits = rw (number, usage, reads .usage) (omega (arith, a .room .usage-fits))
+    usage-fits = rw (usage, reads .usage) (omega (arith, a .room .usage-fits))
 
     pub works-fit : word usage-stored 3 + t .works .0 < 2 ^ 64
-    works-fit = rw (number, usage, reads .works) (omega (arith, a .room .works-fit))
+    works-fit = rw (usage, reads .works) (omega (arith, a .room .works-fit))
 
     pub works-added : {l : List ℕ} → l ≡ add-at usage-stored 3 (t .works .0) → l ≡ with-works t words
-    works-added stored = rw (stored, usage, number)
+    works-added stored = rw (stored, usage)
 
   module _ {l : List ℕ} (so-far : l ≡ with-works t words) {others : StealCycles}
       (rest : others ≡ record { 0 = all - (t .works .0 + t .mugs .0) }) where

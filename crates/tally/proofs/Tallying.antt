@@ -18,12 +18,12 @@ none-added m inside =
     rw (here, plus (m .done), plus (m .works), plus (m .mugs), plus (m .steals), plus (m .usage), minus (m .waiting)) refl
 
 module _ (m : Numbers) (w : ℕ) (t : Tally) where
-  pub work-added : numbers-at m (w + 1) (add-work t) ≡ after-work (numbers-at m w t)
-  work-added =
-      let done : numbers-at m (w + 1) (add-work t) .done ≡ after-work (numbers-at m w t) .done = omega arith in
-      let works : numbers-at m (w + 1) (add-work t) .works ≡ after-work (numbers-at m w t) .works = omega arith in
-      let steals : numbers-at m (w + 1) (add-work t) .steals ≡ after-work (numbers-at m w t) .steals = omega arith in
-      let usage : numbers-at m (w + 1) (add-work t) .usage ≡ after-work (numbers-at m w t) .usage = omega arith in
+  pub work-added : (completed : ℕ) → numbers-at m (w + 1) (add-work t completed) ≡ after-work completed (numbers-at m w t)
+  work-added completed =
+      let done : numbers-at m (w + 1) (add-work t completed) .done ≡ after-work completed (numbers-at m w t) .done = omega arith in
+      let works : numbers-at m (w + 1) (add-work t completed) .works ≡ after-work completed (numbers-at m w t) .works = omega arith in
+      let steals : numbers-at m (w + 1) (add-work t completed) .steals ≡ after-work completed (numbers-at m w t) .steals = omega arith in
+      let usage : numbers-at m (w + 1) (add-work t completed) .usage ≡ after-work completed (numbers-at m w t) .usage = omega arith in
       rw (done, works, steals, usage) refl
 
   pub mug-added : numbers-at m (w + 1) (add-mug t) ≡ after-mug (numbers-at m w t)
@@ -55,4 +55,9 @@ success-added words w t counted =
 
 -- a tally that can be added can take another cycle
 pub growing : {words : List ℕ} {w : ℕ} {t : Tally} → Addable words w t → Growing t
-growing a = record { works-fit = omega (arith, a .room .works-fit); mugs-fit = omega (arith, a .room .mugs-fit) }
+growing a =
+    record {
+      works-fit = omega (arith, a .room .works-fit);
+      mugs-fit = omega (arith, a .room .mugs-fit);
+      completed-fit = omega (arith, a .done-fits);
+    }

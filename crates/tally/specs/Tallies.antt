@@ -8,13 +8,13 @@ use Rattle.memory.specs.Cycles.{cycle-limit, Room}
 use Rattle.tally.specs.declared.Tally.{Tally}
 
 abbrev pub no-tally : Tally
-no-tally = record { works = record { 0 = 0 }; mugs = record { 0 = 0 } }
+no-tally = record { works = record { 0 = 0 }; mugs = record { 0 = 0 }; completed = 0 }
 
-abbrev pub add-work : Tally → Tally
-add-work t = record { works = record { 0 = t .works .0 + 1 }; mugs = t .mugs }
+abbrev pub add-work : Tally → ℕ → Tally
+add-work t completed = record { works = record { 0 = t .works .0 + 1 }; mugs = t .mugs; completed = t .completed + completed }
 
 abbrev pub add-mug : Tally → Tally
-add-mug t = record { works = t .works; mugs = record { 0 = t .mugs .0 + 1 } }
+add-mug t = record { works = t .works; mugs = record { 0 = t .mugs .0 + 1 }; completed = t .completed }
 
 -- the numbers with what the cycles so far add: of so many, those that are neither work nor mug cycles are steal cycles
 abbrev pub numbers-at : Numbers → ℕ → Tally → Numbers
@@ -22,7 +22,7 @@ numbers-at m cycles t =
     record {
       tasks = m .tasks;
       workers = m .workers;
-      done = m .done + t .works .0;
+      done = m .done + t .completed;
       works = m .works + t .works .0;
       mugs = m .mugs + t .mugs .0;
       steals = m .steals + (cycles - (t .works .0 + t .mugs .0));
@@ -36,11 +36,12 @@ numbers-at m cycles t =
 pub record Growing (t : Tally) : Type 0 where
   pub works-fit : t .works .0 ≤ cycle-limit
   pub mugs-fit : t .mugs .0 ≤ cycle-limit
+  pub completed-fit : t .completed ≤ 1024
 
 -- sums that fit, no more mugs than muggable deques, and no more cycles of two kinds than of all
 pub record Addable (words : List ℕ) (cycles : ℕ) (t : Tally) : Type 0 where
   pub size : length words ≡ word-count
-  pub done-fits : numbers-in words .done + t .works .0 ≤ 1024
+  pub done-fits : numbers-in words .done + t .completed ≤ 1024
   pub waited : t .mugs .0 ≤ numbers-in words .waiting
   pub head-in-ring : numbers-in words .head < 64
   pub counted : t .works .0 + t .mugs .0 ≤ cycles

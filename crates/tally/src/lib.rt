@@ -4,12 +4,15 @@ use cycle_counts::StealCycles;
 use cycle_counts::WorkCycles;
 use memory::Words;
 ghost use mathlib.Core.Path.{_≡_};
+ghost use Prim.Native.Nat.{_≤_};
 ghost use Rattle.tally.specs.Tallies.{no-tally, add-work, add-mug, Growing, Addable, Settled};
 
-// How many of a tick's cycles so far were work cycles and how many mug cycles; the others are steal cycles.
+// How many of a tick's cycles so far were work cycles and how many mug cycles; the others are steal cycles. And how many tasks the work
+// cycles completed.
 pub struct Tally {
     pub works: WorkCycles,
     pub mugs: MugCycles,
+    pub completed: u64,
 }
 
 // No cycle yet.
@@ -19,19 +22,21 @@ pub fn no_tally() -> Tally
     Tally {
         works: WorkCycles::none(),
         mugs: MugCycles::none(),
+        completed: 0,
     }
 }
 
-// One work cycle more.
-pub fn add_work(t: Tally) -> Tally
-    requires { ⌜ Growing t ⌝ }
-    ensures { λ r. ⌜ r ≡ add-work t ⌝ }
+// One work cycle more, and so many tasks that it completed, 1 or 0.
+pub fn add_work(t: Tally, completed: u64) -> Tally
+    requires { ⌜ Growing t ⌝ ∗ ⌜ completed ≤ 1 ⌝ }
+    ensures { λ r. ⌜ r ≡ add-work t completed ⌝ }
 {
     let works = t.works;
     let mugs = t.mugs;
     Tally {
         works: works.one_more(),
         mugs,
+        completed: t.completed + completed,
     }
 }
 
@@ -45,6 +50,7 @@ pub fn add_mug(t: Tally) -> Tally
     Tally {
         works,
         mugs: mugs.one_more(),
+        completed: t.completed,
     }
 }
 
@@ -56,7 +62,7 @@ pub fn settle(words: &mut Words, cycles: usize, t: Tally)
 {
     let works = t.works;
     let mugs = t.mugs;
-    words[memory::DONE] = words[memory::DONE] + works.number();
+    words[memory::DONE] = words[memory::DONE] + t.completed;
     words[memory::USAGE] = words[memory::USAGE] + cycle_counts::usage(works, mugs);
     works.add_to(words);
     let steals = StealCycles::others(cycles as u64, works, mugs);

@@ -9,9 +9,9 @@ use Rattle.model.specs.Plan.{Graph}
 use Rattle.model.specs.Machine.{Execution, deque-of, cycle}
 use Rattle.model.specs.Statements.{SoundGraph}
 use Rattle.laws.proofs.Cycles.{works}
-use Rattle.laws.proofs.Placement.{cycle-placed, cycle-tallied}
+use Rattle.laws.proofs.Placement.{cycle-placed}
 use Rattle.laws.proofs.Bounds.{cycle-bounded}
-use Rattle.memory.specs.Parts.{Parts, with-ends, SameGraph}
+use Rattle.memory.specs.Parts.{Parts, with-ends, SamePlan}
 use Rattle.memory.specs.Words.{Numbers}
 use Rattle.memory.specs.Graphs.{graph}
 use Rattle.memory.specs.View.{walk, front-at, size-at, view}
@@ -28,7 +28,6 @@ lawful-cycle its-graph e w choice sound l here =
     record {
       placed = cycle-placed sound (l .placed) w choice here;
       bounded = cycle-bounded its-graph (l .bounded) w choice here;
-      tallied = cycle-tallied sound (l .placed) (l .tallied) w choice here;
     }
 
 -- ---- sound parts and numbers, and a worker of them
@@ -56,32 +55,33 @@ module _ {p : Parts} {m : Numbers} {w choice : ℕ} (turn : ChoiceTurn p m w cho
   own-tasks = worker-at (p .next) (p .ends) (m .workers) w (turn .turn .worker) ∙ deque-at-is (p .next) (p .ends) w
 
   -- what shows the model's cycle is sound
-  cycled : {p′ : Parts} {m′ : Numbers} → view p′ m′ ≡ cycle its-graph w choice e → SameGraph p p′ → Sizes p′ → Kept its-graph p′ m′ →
+  cycled : {p′ : Parts} {m′ : Numbers} → view p′ m′ ≡ cycle its-graph w choice e → SamePlan p p′ → Sizes p′ → Kept its-graph p′ m′ →
       Grown 1 m m′ → m′ .waiting + m′ .mugs ≡ m .waiting + m .mugs → Cycled p m w choice p′ m′
   cycled {p′} {m′} shows same sizes kept grown mugged =
-      let same-plan : graph p′ (m′ .tasks) ≡ its-graph = rw (same .same-first, same .same-second, grown .same-tasks) in
+      let same-graph : graph p′ (m′ .tasks) ≡ its-graph = rw (same .same-first, same .same-second, grown .same-tasks) in
       record {
         shows = shows;
         sound =
             record {
               sizes = sizes;
               few-tasks = rw (grown .same-tasks) (sound .few-tasks);
-              planned = subst SoundGraph (sym same-plan) (sound .planned);
+              planned = subst SoundGraph (sym same-graph) (sound .planned);
               lawful =
                   rw shows
-                  (subst (λ (g : Graph). Lawful g (cycle its-graph w choice e)) (sym same-plan)
+                  (subst (λ (g : Graph). Lawful g (cycle its-graph w choice e)) (sym same-graph)
                   (lawful-cycle its-graph e w choice (sound .planned) (sound .lawful)
                   (rw (workers-shown (p .next) (p .ends) (m .workers)) (turn .turn .worker))));
-              kept = subst (λ (g : Graph). Kept g p′ m′) (sym same-plan) kept;
+              kept = subst (λ (g : Graph). Kept g p′ m′) (sym same-graph) kept;
             };
         grown = grown;
         mugged = mugged;
-        same-graph = same;
+        same-plan = same;
       }
 
   -- ---- work
 
-  pub cycled-work : {p′ : Parts} → 0 < getD (p .ends) (size-at w) 0 → Worked p m w p′ → Cycled p m w choice p′ (after-work m)
+  pub cycled-work : {p′ : Parts} {completed : ℕ} → 0 < getD (p .ends) (size-at w) 0 → Worked p m w p′ completed →
+      Cycled p m w choice p′ (after-work completed m)
   cycled-work some r =
       let front = getD (p .ends) (front-at w) 0 in
       let size = getD (p .ends) (size-at w) 0 in
@@ -89,7 +89,7 @@ module _ {p : Parts} {m : Numbers} {w choice : ℕ} (turn : ChoiceTurn p m w cho
       (r .shows
       ∙ sym (works its-graph w choice e front (walk (p .next) (getD (p .next) front 0) (size - 1))
       (own-tasks ∙ walk-front (p .next) front size some)))
-      (r .same-graph)
+      (r .same-plan)
       (r .sizes)
       (r .kept)
       (search needs)
@@ -108,8 +108,8 @@ module _ {p : Parts} {m : Numbers} {w choice : ℕ} (turn : ChoiceTurn p m w cho
       let s = sound .sizes in
       cycled
       shows
-      (record { same-first = refl; same-second = refl })
-      (record { firsts = s .firsts; seconds = s .seconds; links = s .links; numbers = s .numbers; places = places })
+      (record { same-first = refl; same-second = refl; same-ticks = λ t. refl })
+      (record { firsts = s .firsts; seconds = s .seconds; links = s .links; numbers = s .numbers; places = places; ticks = s .ticks })
       (record {
         pending-right = rw (grown .same-tasks) (sound .kept .pending-right);
         done-right = rw (grown .same-tasks) (done ∙ sound .kept .done-right);

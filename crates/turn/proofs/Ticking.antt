@@ -16,7 +16,7 @@ use Rattle.model.specs.Machine.{Execution, cycle, cycles}
 use Rattle.lists.proofs.Tests.{and-left, and-right}
 use Rattle.laws.specs.Invariants.{Placed}
 use Rattle.laws.proofs.Placement.{turn-is-cycle}
-use Rattle.memory.specs.Parts.{Parts, parts, SameGraph}
+use Rattle.memory.specs.Parts.{Parts, parts, SamePlan}
 use Rattle.memory.specs.Words.{Numbers, numbers-in, SameTail}
 use Rattle.memory.specs.Graphs.{graph}
 use Rattle.memory.specs.View.{size-at, view}
@@ -88,7 +88,7 @@ pub record Underway (memory words choices memory′ words′ : List ℕ) (t : Ta
   pub grown : Grown i (numbers-in words) (numbers-at (numbers-in words′) i t)
   pub mugged : numbers-at (numbers-in words′) i t .waiting + numbers-at (numbers-in words′) i t .mugs
       ≡ numbers-in words .waiting + numbers-in words .mugs
-  pub same-graph : SameGraph (parts memory) (parts memory′)
+  pub same-plan : SamePlan (parts memory) (parts memory′)
   pub same-words : SameButSuccesses words words′
   pub counted : t .works .0 + t .mugs .0 ≤ i
 
@@ -105,7 +105,7 @@ module _ {memory words choices : List ℕ} (tick : TickTurn memory words choices
         sound = rw (← same) (tick .sound);
         grown = rw (← same) (grown-none (numbers-in words));
         mugged = omega arith;
-        same-graph = record { same-first = refl; same-second = refl };
+        same-plan = record { same-first = refl; same-second = refl; same-ticks = λ x. refl };
         same-words = same-words words;
         counted = omega arith;
       }
@@ -146,7 +146,7 @@ module _ {memory words choices : List ℕ} (tick : TickTurn memory words choices
           shows = ap (view (parts memory′)) (settled .numbers) ∙ sym (u .shows ∙ none-left its-graph choices i e all);
           sound = rw (settled .numbers) (u .sound);
           grown = rw (settled .numbers) (grown-more (omega (arith, u .part, few-choices)) (u .grown));
-          same-graph = u .same-graph;
+          same-plan = u .same-plan;
           tail = tail-then (words-tail (u .same-words)) (settled .tail);
         }
 
@@ -172,21 +172,22 @@ module _ {memory words choices : List ℕ} (tick : TickTurn memory words choices
           Cycled (parts memory′) m′ i (getD choices i 0) (parts memory″) (numbers-at (numbers-in words″) (i + 1) t″) →
           SameButSuccesses words′ words″ → t″ .works .0 + t″ .mugs .0 ≤ i + 1 → Underway memory words choices memory″ words″ t″ (i + 1)
       onward c same few =
-          let same-plan : graph (parts memory′) (m′ .tasks) ≡ its-graph =
-          rw (u .same-graph .same-first, u .same-graph .same-second, u .grown .same-tasks) in
+          let same-graph : graph (parts memory′) (m′ .tasks) ≡ its-graph =
+          rw (u .same-plan .same-first, u .same-plan .same-second, u .grown .same-tasks) in
           record {
             part = omega arith;
             shows =
                 u .shows
-                ∙ one-more its-graph choices i e l (rw (← same-plan) (u .sound .lawful .placed))
-                ∙ rw (c .shows, add-one, same-plan);
+                ∙ one-more its-graph choices i e l (rw (← same-graph) (u .sound .lawful .placed))
+                ∙ rw (c .shows, add-one, same-graph);
             sound = c .sound;
             grown = grown-then (u .grown) (c .grown);
             mugged = c .mugged ∙ u .mugged;
-            same-graph =
+            same-plan =
                 record {
-                  same-first = c .same-graph .same-first ∙ u .same-graph .same-first;
-                  same-second = c .same-graph .same-second ∙ u .same-graph .same-second;
+                  same-first = c .same-plan .same-first ∙ u .same-plan .same-first;
+                  same-second = c .same-plan .same-second ∙ u .same-plan .same-second;
+                  same-ticks = λ x. c .same-plan .same-ticks x ∙ u .same-plan .same-ticks x;
                 };
             same-words = words-then (u .same-words) same;
             counted = few;
@@ -197,12 +198,12 @@ module _ {memory words choices : List ℕ} (tick : TickTurn memory words choices
         pub work-turn : WorkTurn (parts memory′) m′ i
         work-turn = record { turn = next-turn .turn; filled = some }
 
-        pub onward-work : {memory″ : List ℕ} {t″ : Tally} →
-            (WorkTurn (parts memory′) m′ i → Worked (parts memory′) m′ i (parts memory″)) → t″ ≡ add-work t →
+        pub onward-work : {memory″ : List ℕ} {t″ : Tally} {completed : ℕ} →
+            (WorkTurn (parts memory′) m′ i → Worked (parts memory′) m′ i (parts memory″) completed) → t″ ≡ add-work t completed →
             Underway memory words choices memory″ words′ t″ (i + 1)
-        onward-work promised added =
+        onward-work {memory″} {t″} {completed} promised added =
             onward
-            (rw (added, work-added (numbers-in words′) i t) (cycled-work next-turn some (promised work-turn))) (same-words words′)
+            (rw (added, work-added (numbers-in words′) i t completed) (cycled-work next-turn some (promised work-turn))) (same-words words′)
             (rw added (omega (arith, u .counted)))
 
       pub onward-idle : {memory″ words″ : List ℕ} {t″ : Tally} →

@@ -8,7 +8,7 @@ use lib.Dec.{ltb}
 use lib.ListN.{length, getD}
 use Rattle.model.specs.Tests.{every}
 use Rattle.model.specs.Machine.{cycle, cycles}
-use Rattle.memory.specs.Parts.{Parts, parts, SameGraph}
+use Rattle.memory.specs.Parts.{Parts, parts, SamePlan}
 use Rattle.memory.specs.Words.{word-count, word, Numbers, numbers-in, SameTail}
 use Rattle.memory.specs.Graphs.{graph}
 use Rattle.memory.specs.View.{size-at, view}
@@ -32,7 +32,7 @@ pub record Cycled (p : Parts) (m : Numbers) (w choice : ℕ) (p′ : Parts) (m�
   pub grown : Grown 1 m m′
   -- each mug takes one of the muggable deques
   pub mugged : m′ .waiting + m′ .mugs ≡ m .waiting + m .mugs
-  pub same-graph : SameGraph p p′
+  pub same-plan : SamePlan p p′
 
 -- the cycle of a worker whose deque is empty, counted in words and tally
 pub record IdleTurn (memory words : List ℕ) (w choice : ℕ) (t : Tally) : Type 0 where
@@ -67,5 +67,5 @@ pub record Ticked (memory words choices memory′ words′ : List ℕ) : Type 0 
       ≡ cycles (graph (parts memory) (numbers-in words .tasks)) 0 choices (view (parts memory) (numbers-in words))
   pub sound : Sound (parts memory′) (numbers-in words′)
   pub grown : Grown 64 (numbers-in words) (numbers-in words′)
-  pub same-graph : SameGraph (parts memory) (parts memory′)
+  pub same-plan : SamePlan (parts memory) (parts memory′)
   pub tail : SameTail words words′

@@ -43,8 +43,8 @@ pub fn cycles(memory: &mut Memory, words: &mut Words, choices: &[u8])
     while w < choices.len() {
         let size_at = memory::ENDS + (2 * w + 1);
         if memory[size_at] > 0 {
-            work::work_cycle(memory, w);
-            t = tally::add_work(t);
+            let completed = work::work_cycle(memory, w);
+            t = tally::add_work(t, completed);
         } else {
             let choice = choices[w] as usize;
             t = idle_cycle(memory, words, w, choice, t);

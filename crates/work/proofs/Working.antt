@@ -1,44 +1,46 @@
--- A work cycle: the front task is marked, its successors are counted down and those that became ready are pushed; the parts then show the
--- model's step, and the numbers of predecessors are right again. So first of the parts, then of the memory that the code reads and writes.
+-- A work cycle: the front task has one tick less. If that was its last, its successors are counted down and those that became ready are pushed;
+-- the parts then show the model's step, and the numbers of predecessors are right again. So first of the parts, then of the memory that the
+-- code reads and writes.
 use mathlib.Core.Path.{_≡_, refl, sym, ap, _∙_}
 use mathlib.Core.Bool.{Bool, true, false}
 use mathlib.Core.List.{List, [], _∷_, _++_, tail, List·Memᴰ}
-use Prim.Native.Nat.{ℕ, zero, suc, _+_, _-_, _≤_, _<_}
+use Prim.Native.Nat.{ℕ, zero, suc, _+_, _-_, _%_, _≤_, _<_}
 use native.Mathlib.Omega.{arith}
 use lib.Dec.{eqb, leb}
 use lib.ListN.{length, getD, set, length-set}
-use lib.Seq.{getD-set-same, getD-set-other}
-use borrow.Author.Tests.{eq-eqb, ne-eqb, lt-leb}
-use Rattle.model.specs.Tests.{member}
+use lib.Seq.{getD-set-same, getD-set-other, set-getD}
+use borrow.Author.Tests.{eqb-true, eqb-false, ne-eqb, lt-leb}
+use Rattle.model.specs.Tests.{member, occurrences, zeros}
 use Rattle.model.specs.Plan.{Graph, tasks, successors-of}
-use Rattle.model.specs.Machine.{Execution, deque-of, ready, completed, released, work-cycle}
-use Rattle.laws.specs.Invariants.{occurrences, Placed}
-use Rattle.lists.proofs.Tests.{true-is-not-false, not-true-is-false}
+use Rattle.model.specs.Machine.{Execution, deque-of, ready, released, one-tick-less, worked-deque, work-cycle}
+use Rattle.laws.specs.Invariants.{Placed}
 use Rattle.lists.proofs.Ranges.{keep-cong}
 use Rattle.lists.proofs.Lists.{member-is, is-member, count-set-more}
 use Rattle.laws.proofs.Deques.{no-member, one-deque}
 use Rattle.laws.proofs.Readiness.{Waits, above, inside, successor-once}
-use Rattle.laws.proofs.Placement.{front-waits, successor-unworked, released-stand-nowhere}
-use Rattle.laws.proofs.Awaiting.{awaits-none, successor-awaits, other-awaits, awaits-at-most}
+use Rattle.laws.specs.Awaited.{completed}
+use Rattle.laws.proofs.WorkTicks.{some-left, with-more-left, with-one-left}
+use Rattle.laws.proofs.Placement.{flags-of, front-waits, released-stand-nowhere}
+use Rattle.laws.proofs.Awaiting.{awaits-none, successor-awaits, other-awaits}
 use Rattle.laws.proofs.Bounds.{worker-length}
 use Rattle.memory.specs.declared.Deque.{Deque}
-use Rattle.memory.specs.Parts.{Parts, parts, with-pending}
+use Rattle.memory.specs.Parts.{Parts, parts, span, ticks-at, left-at}
 use Rattle.memory.specs.Words.{Numbers}
 use Rattle.memory.specs.Graphs.{shown, successors-at, graph}
 use Rattle.memory.specs.View.{tasks-of, front-at, size-at, put-deque, put-part, deque-at, deques-view, ring-place, muggable-view}
-use Rattle.memory.specs.View.{worked-view, worked-mark, view}
-use Rattle.memory.specs.Sound.{Kept, Sound, awaited}
+use Rattle.memory.specs.View.{left-view, view}
+use Rattle.memory.specs.Sound.{Kept, Sound, awaited, worked-in}
 use Rattle.memory.specs.Cycles.{after-work}
 use Rattle.memory.proofs.Executions.{same-execution, work-counted}
-use Rattle.memory.proofs.Regions.{first-at, second-at, next-at, ends-part-at, store-pending, put-stored, front-stored}
+use Rattle.memory.proofs.Regions.{first-at, second-at, next-at, ends-part-at, spans-at, store-spans, put-stored, front-stored}
 use Rattle.memory.proofs.Walks.{walk-front}
 use Rattle.lists.proofs.Tables.{table-set}
-use Rattle.memory.proofs.Views.{deque-at-is, deque-length, worker-at, workers-shown, muggable-at, flags-shown, tasks-shown}
-use Rattle.memory.proofs.Views.{successors-shown, put-places, put-deques, put-muggable, links-deques, links-muggable}
+use Rattle.memory.proofs.Views.{deque-at-is, deque-length, worker-at, workers-shown, muggable-at, left-shown, left-here, flags-shown}
+use Rattle.memory.proofs.Views.{tasks-shown, successors-shown, put-places, put-deques, put-muggable, links-deques, links-muggable}
 use Rattle.deque.specs.Releasing.{AllReleasable, AllReleased, last-awaited}
 use Rattle.deque.proofs.Releases.{all-none, less-length, less-at}
 use Rattle.deque.proofs.Stores.{one-inside, one-awaits, one-later, one-now}
-use Rattle.work.specs.Works.{WorkTurn, Worked}
+use Rattle.work.specs.Works.{WorkTurn, Worked, LastTick, front-task, one-tick-off}
 
 -- what stands nowhere in a deque stands nowhere behind its front
 behind : (s x : ℕ) (xs : List ℕ) → occurrences s (x ∷ xs) ≡ 0 → occurrences s xs ≡ 0
@@ -89,12 +91,16 @@ module _ {p : Parts} {m : Numbers} {w : ℕ} (turn : WorkTurn p m w) where
   abbrev succs : List ℕ
   succs = successors-of its-graph t
 
-  -- the parts in which it is marked
-  abbrev marked : Parts
-  marked = with-pending p (set pending t worked-mark)
+  -- the parts in which it has one tick less
+  abbrev ticked : Parts
+  ticked = one-tick-off p t
+
+  -- the ticks left, and the worked tasks
+  abbrev left : List ℕ
+  left = left-view (p .spans) (m .tasks)
 
   abbrev worked : List Bool
-  worked = worked-view pending (m .tasks)
+  worked = worked-in p m
 
   few-workers : m .workers ≤ 64
   few-workers = omega (arith, sound .lawful .bounded .workers, workers-shown next ends (m .workers))
@@ -129,7 +135,73 @@ module _ {p : Parts} {m : Numbers} {w : ℕ} (turn : WorkTurn p m w) where
       omega (arith, worker-length placed w, deque-length next ends w, tasks-shown (p .first) (p .second) (m .tasks), sound .few-tasks)
 
   flag : t < length worked
-  flag = omega (arith, flags-shown pending (m .tasks), t-inside)
+  flag = omega (arith, flags-shown (p .spans) (m .tasks), t-inside)
+
+  entry : t < length left
+  entry = omega (arith, left-shown (p .spans) (m .tasks), t-inside)
+
+  left-now : getD left t 0 ≡ left-at (p .spans) t
+  left-now = left-here (p .spans) (m .tasks) t t-inside
+
+  some-left-at : 1 ≤ left-at (p .spans) t
+  some-left-at = omega (arith, some-left left t entry (front .unworked), left-now)
+
+  -- ---- one tick less
+
+  span-now : getD (ticked .spans) t 0 ≡ getD (p .spans) t 0 - 1
+  span-now = getD-set-same (p .spans) t (getD (p .spans) t 0 - 1) 0 (rw (sound .sizes .ticks) front-inside)
+
+  span-other : (x : ℕ) → (x ≡ t → ⊥) → getD (ticked .spans) x 0 ≡ getD (p .spans) x 0
+  span-other x ne = getD-set-other (p .spans) t x (getD (p .spans) t 0 - 1) 0 ne
+
+  left-after : left-view (ticked .spans) (m .tasks) ≡ one-tick-less t left
+  unfolding left-view
+  left-after =
+      table-set (left-at (p .spans)) (left-at (ticked .spans)) (m .tasks) t (getD left t 0 - 1) t-inside
+      (rw span-now (omega (arith, left-now, some-left-at)))
+      (λ x l ne. rw (span-other x ne))
+
+  ticks-same : (x : ℕ) → ticks-at (ticked .spans) x ≡ ticks-at (p .spans) x
+  ticks-same x = go (eqb x t) refl
+    where
+      go : (b : Bool) → eqb x t ≡ b → ticks-at (ticked .spans) x ≡ ticks-at (p .spans) x
+      go true e = rw (eqb-true x t e, span-now) (omega (arith, some-left-at))
+      go false e = rw (span-other x (eqb-false x t e))
+
+  ticked-length : length (ticked .spans) ≡ 1024
+  ticked-length = length-set (p .spans) t (getD (p .spans) t 0 - 1) ∙ sound .sizes .ticks
+
+  -- ---- it was not the last
+
+  module _ (more : 2 ≤ left-at (p .spans) t) where
+    stays : (zeros (one-tick-less t left) ≡ worked) × (worked-deque its-graph (one-tick-less t left) t (deque-of e w) ≡ deque-of e w)
+    stays = with-more-left its-graph left t (deque-of e w) entry (front .unworked) (omega (arith, left-now))
+
+    goes-on : Worked p m w ticked 0
+    unfolding work-cycle
+    goes-on =
+        let same-flags : worked-in ticked m ≡ worked = ap zeros left-after ∙ stays .0 in
+        record {
+          one-at-most = omega arith;
+          sizes =
+              record {
+                firsts = sound .sizes .firsts;
+                seconds = sound .sizes .seconds;
+                links = sound .sizes .links;
+                numbers = sound .sizes .numbers;
+                places = sound .sizes .places;
+                ticks = ticked-length;
+              };
+          kept =
+              record {
+                pending-right = λ x l. rw same-flags (sound .kept .pending-right x l);
+                done-right = rw same-flags (omega (arith, sound .kept .done-right));
+                head-in-ring = sound .kept .head-in-ring;
+              };
+          shows =
+              same-execution left-after (sym (ap (set (e .deques) w) (stays .1) ∙ set-getD (e .deques) w [])) refl (work-counted 0 m);
+          same-plan = record { same-first = refl; same-second = refl; same-ticks = ticks-same };
+        }
 
   -- its successors are those of its fields
   fields : succs ≡ shown one two
@@ -148,21 +220,11 @@ module _ {p : Parts} {m : Numbers} {w : ℕ} (turn : WorkTurn p m w) where
     s-apart : s ≡ t → ⊥
     s-apart q = omega (arith, above (sound .planned) t s t-of-plan is-successor)
 
-    s-unworked : getD worked s false ≡ false
-    s-unworked = successor-unworked placed t t-of-plan (front .unworked) s is-successor
-
     s-awaits : getD pending s 0 ≡ awaited its-graph (set worked t true) s + 1
     unfolding awaited
     s-awaits =
-        let one-less = successor-awaits its-graph worked t t-of-plan (placed .flags) (front .unworked) s is-successor in
-        omega (arith, sound .kept .pending-right s s-inside s-unworked)
-
-    s-few : getD pending s 0 ≤ 2
-    unfolding awaited
-    s-few =
-        let later : 1 ≤ s = omega (arith, above (sound .planned) t s t-of-plan is-successor) in
-        let most = awaits-at-most (sound .planned) worked s later (inside (sound .planned) t s t-of-plan is-successor) in
-        omega (arith, sound .kept .pending-right s s-inside s-unworked)
+        let one-less = successor-awaits its-graph worked t t-of-plan (flags-of placed) (front .unworked) s is-successor in
+        omega (arith, sound .kept .pending-right s s-inside)
 
     nowhere-worker : (i : ℕ) → i < m .workers → occurrences s (deque-at next ends i) ≡ 0
     nowhere-worker i l =
@@ -185,100 +247,68 @@ module _ {p : Parts} {m : Numbers} {w : ℕ} (turn : WorkTurn p m w) where
   shown-successor : (s : ℕ) → List·Memᴰ s (shown one two) → List·Memᴰ s succs
   shown-successor s mem = rw fields mem
 
-  unmarked : (mark s : ℕ) → (s ≡ t → ⊥) → getD (set pending t mark) s 0 ≡ getD pending s 0
-  unmarked mark s ne = getD-set-other pending t s mark 0 ne
-
   apart-fields : (one ≡ 0 → ⊥) → one ≡ two → ⊥
   unfolding shown
   apart-fields nz q =
       sound .planned .apart t one two t-of-plan (fields ∙ rw (ne-eqb one 0 nz, ne-eqb two 0 (λ z. nz (q ∙ z)))) q
 
-  -- whatever the mark
-  releasable : (mark : ℕ) → AllReleasable (with-pending p (set pending t mark)) one two rest
-  releasable mark =
+  releasable : AllReleasable ticked one two rest
+  releasable =
       record {
-        numbers = length-set pending t mark ∙ sound .sizes .numbers;
+        numbers = sound .sizes .numbers;
         links = sound .sizes .links;
         inside = λ s mem. omega (arith, s-inside s (shown-successor s mem), sound .few-tasks);
         apart = apart-fields;
-        awaits = λ s mem.
-            rw (unmarked mark s (s-apart s (shown-successor s mem)), s-awaits s (shown-successor s mem)) (omega arith);
+        awaits = λ s mem. rw (s-awaits s (shown-successor s mem)) (omega arith);
         elsewhere = λ s mem. nowhere-behind s (shown-successor s mem);
         room = omega (arith, front-size, turn .filled);
       }
 
-  -- ---- after the release
+  -- ---- it was the last, after the release
 
-  module _ {p′ : Parts} {after : Deque} (r : AllReleased marked one two rest p′ after) where
+  module _ (last : left-at (p .spans) t ≡ 1) {p′ : Parts} {after : Deque} (r : AllReleased ticked one two rest p′ after) where
+    leaves : (zeros (one-tick-less t left) ≡ set worked t true)
+        × (worked-deque its-graph (one-tick-less t left) t (deque-of e w)
+        ≡ released its-graph (completed t worked) t ++ tail (deque-of e w))
+    leaves = with-one-left its-graph left t (deque-of e w) entry (front .unworked) (left-now ∙ last)
+
+    left-then : left-view (p′ .spans) (m .tasks) ≡ one-tick-less t left
+    left-then = rw (r .rest .same-spans) left-after
+
+    flags-after : worked-in p′ m ≡ set worked t true
+    flags-after = ap zeros left-then ∙ leaves .0
+
     -- each number, after the successors were counted down
-    number-after : (x : ℕ) → getD (p′ .pending) x 0 ≡ getD (marked .pending) x 0 - occurrences x succs
+    number-after : (x : ℕ) → getD (p′ .pending) x 0 ≡ getD pending x 0 - occurrences x succs
     number-after x =
         rw (r .counted, fields)
-        (less-at (marked .pending) (shown one two)
-        (λ s mem. omega (arith, releasable worked-mark .inside s mem, releasable worked-mark .numbers)) x)
-
-    -- of a task that is no successor, and not the one that was worked
-    number-same : (x : ℕ) → (x ≡ t → ⊥) → member x succs ≡ false → getD (p′ .pending) x 0 ≡ getD pending x 0
-    number-same x ne other = omega (arith, number-after x, unmarked worked-mark x ne, no-member x succs other)
-
-    number-less : (x : ℕ) → member x succs ≡ true → getD (p′ .pending) x 0 ≡ awaited its-graph (set worked t true) x
-    number-less x is =
-        let mem = is-member x succs is in
-        let once = successor-once (sound .planned) t x t-of-plan is in
-        omega (arith, number-after x, unmarked worked-mark x (s-apart x mem), s-awaits x mem)
-
-    own-number : getD (p′ .pending) t 0 ≡ worked-mark
-    own-number =
-        let alone : member t succs ≡ false =
-        not-true-is-false (member t succs) (λ is. omega (arith, above (sound .planned) t t t-of-plan is)) in
-        let own-mark = getD-set-same pending t worked-mark 0 (rw (sound .sizes .numbers) front-inside) in
-        omega (arith, number-after t, no-member t succs alone)
-
-    mark-same : (x : ℕ) → (x ≡ t → ⊥) → (b : Bool) → member x succs ≡ b →
-        eqb (getD (p′ .pending) x 0) worked-mark ≡ eqb (getD pending x 0) worked-mark
-    mark-same x ne false is = rw (number-same x ne is)
-    mark-same x ne true is =
-        let mem = is-member x succs is in
-        let less = number-less x is in
-        let few = s-few x mem in
-        let awaits = s-awaits x mem in
-        ne-eqb (getD (p′ .pending) x 0) worked-mark (λ q. omega arith) ∙ sym (ne-eqb (getD pending x 0) worked-mark (λ q. omega arith))
-
-    flags-after : worked-view (p′ .pending) (m .tasks) ≡ set worked t true
-    unfolding worked-view
-    flags-after =
-        table-set (λ x. eqb (getD pending x 0) worked-mark) (λ x. eqb (getD (p′ .pending) x 0) worked-mark) (m .tasks) t true t-inside
-        (eq-eqb (getD (p′ .pending) t 0) worked-mark own-number)
-        (λ x l ne. mark-same x ne (member x succs) refl)
+        (less-at pending (shown one two) (λ s mem. omega (arith, releasable .inside s mem, releasable .numbers)) x)
 
     -- ---- the numbers of predecessors are right again
 
-    right-at : (x : ℕ) → x < m .tasks → getD worked x false ≡ false → (x ≡ t → ⊥) → (b : Bool) → member x succs ≡ b →
-        getD (p′ .pending) x 0 ≡ awaited its-graph (set worked t true) x
+    right-at : (x : ℕ) → x < m .tasks → (b : Bool) → member x succs ≡ b → getD (p′ .pending) x 0 ≡ awaited its-graph (set worked t true) x
     unfolding awaited
-    right-at x l unworked ne true is = number-less x is
-    right-at x l unworked ne false is =
-        let as-many = other-awaits its-graph worked t t-of-plan (placed .flags) (front .unworked) x is in
-        omega (arith, number-same x ne is, sound .kept .pending-right x l unworked)
+    right-at x l true is =
+        let once = successor-once (sound .planned) t x t-of-plan is in
+        omega (arith, number-after x, s-awaits x (is-member x succs is))
+    right-at x l false is =
+        let as-many = other-awaits its-graph worked t t-of-plan (flags-of placed) (front .unworked) x is in
+        omega (arith, number-after x, no-member x succs is, sound .kept .pending-right x l)
 
-    kept-after : Kept its-graph (put-part p′ w after) (after-work m)
+    kept-after : Kept its-graph (put-part p′ w after) (after-work 1 m)
     kept-after =
         record {
-          pending-right = λ x l h.
-              let h′ : getD (set worked t true) x false ≡ false = rw flags-after at h in
-              let ne : x ≡ t → ⊥ = λ q. true-is-not-false (getD-set-same worked t true false flag) (rw q at h′) in
-              rw flags-after
-              (right-at x l (sym (getD-set-other worked t x true false ne) ∙ h′) ne (member x succs) refl);
+          pending-right = λ x l. rw flags-after (right-at x l (member x succs) refl);
           done-right = rw (flags-after, count-set-more worked t flag (front .unworked)) (omega (arith, sound .kept .done-right));
           head-in-ring = sound .kept .head-in-ring;
         }
 
     -- ---- what the parts show
 
-    came-ready : (s : ℕ) → List·Memᴰ s succs → last-awaited (marked .pending) s ≡ ready its-graph (set worked t true) s
+    came-ready : (s : ℕ) → List·Memᴰ s succs → last-awaited pending s ≡ ready its-graph (set worked t true) s
     unfolding awaited
     came-ready s mem =
-        rw (unmarked worked-mark s (s-apart s mem), s-awaits s mem, ← awaits-none its-graph (set worked t true) s)
+        rw (s-awaits s mem, ← awaits-none its-graph (set worked t true) s)
         (one-more (awaited its-graph (set worked t true) s))
 
     own-after : tasks-of (p′ .next) after ≡ released its-graph (completed t worked) t ++ tail (deque-of e w)
@@ -288,7 +318,7 @@ module _ {p : Parts} {m : Numbers} {w : ℕ} (turn : WorkTurn p m w) where
         ∙ rw (
           ← fields,
           own,
-          keep-cong (last-awaited (marked .pending)) (ready its-graph (set worked t true)) succs came-ready,
+          keep-cong (last-awaited pending) (ready its-graph (set worked t true)) succs came-ready,
         )
 
     undisturbed : (q : ℕ) → ((s : ℕ) → List·Memᴰ s succs → occurrences s (deque-at next ends q) ≡ 0) →
@@ -312,98 +342,143 @@ module _ {p : Parts} {m : Numbers} {w : ℕ} (turn : WorkTurn p m w) where
         ∙ links-muggable next (p′ .next) ends (m .head) (m .waiting)
         (λ i l. undisturbed (ring-place (m .head) i) (λ s mem. nowhere-muggable s mem i l))
 
-    work-done : Worked p m w (put-part p′ w after)
+    work-done : Worked p m w (put-part p′ w after) 1
     unfolding work-cycle
     work-done =
         record {
+          one-at-most = omega arith;
           sizes =
               record {
                 firsts = ap length (r .rest .same-first) ∙ sound .sizes .firsts;
                 seconds = ap length (r .rest .same-second) ∙ sound .sizes .seconds;
                 links = r .same-links ∙ sound .sizes .links;
-                numbers = ap length (r .counted) ∙ less-length (marked .pending) (shown one two) ∙ releasable worked-mark .numbers;
+                numbers = ap length (r .counted) ∙ less-length pending (shown one two) ∙ sound .sizes .numbers;
                 places = rw (r .rest .same-ends) (put-places (p′ .next) ends (sound .sizes .places) w place after);
+                ticks = ap length (r .rest .same-spans) ∙ ticked-length;
               };
           kept = kept-after;
-          shows = rw (r .rest .same-ends) (same-execution flags-after deques-after muggable-after (work-counted m));
-          same-graph = record { same-first = r .rest .same-first; same-second = r .rest .same-second };
+          shows =
+              rw (r .rest .same-ends)
+              (same-execution left-then (deques-after ∙ ap (set (e .deques) w) (sym (leaves .1))) muggable-after (work-counted 1 m));
+          same-plan =
+              record {
+                same-first = r .rest .same-first;
+                same-second = r .rest .same-second;
+                same-ticks = rw (r .rest .same-spans) ticks-same;
+              };
         }
 
--- ---- in a memory
+-- ---- in a memory, a tick
 
 module _ (memory : List ℕ) {m : Numbers} {w : ℕ} (turn : WorkTurn (parts memory) m w)
     {task : ℕ} (wide : task ≡ getD memory (4096 + front-at w) 0) where
-  here : task ≡ getD (parts memory .ends) (front-at w) 0
+  here : task ≡ front-task (parts memory) w
   here = wide ∙ ends-part-at memory (front-at w) (omega (arith, place turn))
-
-  size : getD memory (4096 + size-at w) 0 ≡ getD (parts memory .ends) (size-at w) 0
-  size = ends-part-at memory (size-at w) (omega (arith, place turn))
 
   pub task-inside : task < 1024
   task-inside = rw here (front-inside turn)
 
+  abbrev its-span : ℕ
+  its-span = getD memory (4352 + task) 0
+
+  span-read : its-span ≡ getD (parts memory .spans) task 0
+  span-read = spans-at memory task task-inside
+
+  left-read : its-span % span ≡ left-at (parts memory .spans) task
+  left-read = rw span-read
+
+  pub span-some : 1 ≤ its-span
+  span-some = omega (arith, left-read, rw (← here) at (some-left-at turn))
+
+  abbrev stored : List ℕ
+  stored = set memory (4352 + task) (its-span - 1)
+
+  tick-stored : parts stored ≡ one-tick-off (parts memory) task
+  tick-stored = store-spans memory task (its-span - 1) task-inside ∙ rw span-read
+
+  pub more-ticks : (its-span % span ≡ 1 → ⊥) → Worked (parts memory) m w (parts stored) 0
+  more-ticks ne =
+      let some = some-left-at turn in
+      let more : 2 ≤ left-at (parts memory .spans) (front-task (parts memory) w) = omega (arith, rw here at left-read, rw here at ne) in
+      rw (tick-stored, here) (goes-on turn more)
+
+  pub last-ticked : its-span % span ≡ 1 → LastTick (parts memory) m w task (parts stored)
+  last-ticked one = record { turn = turn; in-front = here; last = sym left-read ∙ one; ticked = tick-stored }
+
+-- ---- in a memory, the completion
+
+module _ (memory : List ℕ) {p : Parts} {m : Numbers} {w task : ℕ} (ended : LastTick p m w task (parts memory)) where
+  turn : WorkTurn p m w
+  turn = ended .turn
+
+  ends-same : parts memory .ends ≡ p .ends
+  ends-same = ap (λ (q : Parts). q .ends) (ended .ticked)
+
+  pub worker-here : w < 64
+  worker-here = worker-place turn
+
+  pub task-here : task < 1024
+  task-here = rw (ended .in-front) (front-inside turn)
+
+  size : getD memory (4096 + size-at w) 0 ≡ getD (p .ends) (size-at w) 0
+  size = ends-part-at memory (size-at w) (omega (arith, place turn)) ∙ rw ends-same
+
   pub own-filled : 1 ≤ getD memory (4096 + size-at w) 0
   own-filled = rw size (turn .filled)
 
-  module _ (mark : ℕ) where
-    -- the memory in which the front task is marked, the fields that it shows, and the deque behind the front
-    abbrev stored : List ℕ
-    stored = set memory (3072 + task) mark
+  -- the fields that the task shows, and the deque behind the front
+  abbrev first-field : ℕ
+  first-field = getD memory task 0
 
-    abbrev first-field : ℕ
-    first-field = getD stored task 0
+  abbrev second-field : ℕ
+  second-field = getD memory (1024 + task) 0
 
-    abbrev second-field : ℕ
-    second-field = getD stored (1024 + task) 0
+  abbrev others : Deque
+  others = record { front = getD memory (2048 + task) 0; size = getD memory (4096 + size-at w) 0 - 1 }
 
-    abbrev others : Deque
-    others = record { front = getD memory (2048 + task) 0; size = getD memory (4096 + size-at w) 0 - 1 }
+  one-read : first-field ≡ getD (p .first) task 0
+  one-read = first-at memory task task-here ∙ ap (λ (q : Parts). getD (q .first) task 0) (ended .ticked)
 
-    mark-stored : parts stored ≡ with-pending (parts memory) (set (parts memory .pending) task mark)
-    mark-stored = store-pending memory task mark task-inside
+  two-read : second-field ≡ getD (p .second) task 0
+  two-read = second-at memory task task-here ∙ ap (λ (q : Parts). getD (q .second) task 0) (ended .ticked)
 
-    one-read : first-field ≡ getD (parts memory .first) task 0
-    one-read = first-at stored task task-inside ∙ ap (λ (p : Parts). getD (p .first) task 0) mark-stored
+  rest-read : getD memory (2048 + task) 0 ≡ getD (p .next) task 0
+  rest-read = next-at memory task task-here ∙ ap (λ (q : Parts). getD (q .next) task 0) (ended .ticked)
 
-    two-read : second-field ≡ getD (parts memory .second) task 0
-    two-read = second-at stored task task-inside ∙ ap (λ (p : Parts). getD (p .second) task 0) mark-stored
+  pub all-releasable : AllReleasable (parts memory) first-field second-field others
+  all-releasable = rw (one-read, two-read, rest-read, ended .ticked, size, ended .in-front) (releasable turn)
 
-    pub all-releasable : AllReleasable (parts stored) first-field second-field others
-    all-releasable = rw (one-read, two-read, mark-stored, next-at memory task task-inside, size, here) (releasable turn mark)
+  pub done : {p′ p″ : Parts} {after : Deque} → AllReleased (parts memory) first-field second-field others p′ after →
+      p″ ≡ put-part p′ w after → Worked p m w p″ 1
+  done r put =
+      rw put
+      (work-done turn (rw (← ended .in-front) (ended .last))
+      (rw (one-read, two-read, rest-read, ended .ticked, size, ended .in-front) at r))
 
-    module _ (alone : second-field ≡ 0) (nz : first-field ≡ 0 → ⊥) {at : ℕ} (same : at ≡ first-field) where
-      pub one-fits : at < 1024
-      one-fits = one-inside stored all-releasable alone nz same
+  -- the deque without its front
+  abbrev behind-front : List ℕ → List ℕ
+  behind-front memory′ = set (set memory′ (4096 + front-at w) (others .front)) (4096 + size-at w) (others .size)
 
-      pub one-waits : 1 ≤ getD stored (3072 + at) 0
-      one-waits = one-awaits stored all-releasable alone nz same
+  pub done-none : first-field ≡ 0 → Worked p m w (parts (behind-front memory)) 1
+  done-none z = done (all-none _ _ _ _ z) (put-stored memory w others (place turn))
 
-    -- ---- the ways out, with the mark of a worked task
+  module _ (alone : second-field ≡ 0) (nz : first-field ≡ 0 → ⊥) {at : ℕ} (same : at ≡ first-field) where
+    pub one-fits : at < 1024
+    one-fits = one-inside memory all-releasable alone nz same
 
-    module _ (worked-so : mark ≡ worked-mark) where
-      pub done : {p′ p″ : Parts} {after : Deque} → AllReleased (parts stored) first-field second-field others p′ after →
-          p″ ≡ put-part p′ w after → Worked (parts memory) m w p″
-      done r put =
-          rw put (work-done turn (rw (one-read, two-read, mark-stored, next-at memory task task-inside, size, here, worked-so) at r))
+    pub one-waits : 1 ≤ getD memory (3072 + at) 0
+    one-waits = one-awaits memory all-releasable alone nz same
 
-      -- the deque without its front
-      abbrev left : List ℕ → List ℕ
-      left memory′ = set (set memory′ (4096 + front-at w) (others .front)) (4096 + size-at w) (others .size)
+    abbrev lessened : List ℕ
+    lessened = set memory (3072 + at) (getD memory (3072 + at) 0 - 1)
 
-      pub done-none : first-field ≡ 0 → Worked (parts memory) m w (parts (left stored))
-      done-none z = done (all-none _ _ _ _ z) (put-stored stored w others (place turn))
+    pub done-later : (getD memory (3072 + at) 0 ≡ 1 → ⊥) → Worked p m w (parts (behind-front lessened)) 1
+    done-later more = done (one-later memory all-releasable alone nz same more) (put-stored lessened w others (place turn))
 
-      module _ (alone : second-field ≡ 0) (nz : first-field ≡ 0 → ⊥) {at : ℕ} (same : at ≡ first-field) where
-        abbrev lessened : List ℕ
-        lessened = set stored (3072 + at) (getD stored (3072 + at) 0 - 1)
-
-        pub done-later : (getD stored (3072 + at) 0 ≡ 1 → ⊥) → Worked (parts memory) m w (parts (left lessened))
-        done-later more = done (one-later stored all-releasable alone nz same more) (put-stored lessened w others (place turn))
-
-        pub done-now : getD stored (3072 + at) 0 ≡ 1 →
-            Worked (parts memory) m w (parts (set (set lessened (2048 + at) (others .front)) (4096 + front-at w) first-field))
-        done-now last =
-            let r = one-now stored all-releasable alone nz same last in
-            let kept : getD (parts (set lessened (2048 + at) (others .front)) .ends) (size-at w) 0 ≡ others .size + 1 =
-            rw (r .rest .same-ends, mark-stored, ← size) (omega (arith, own-filled)) in
-            done r (front-stored (set lessened (2048 + at) (others .front)) w first-field (others .size + 1) (place turn) kept)
+    pub done-now : getD memory (3072 + at) 0 ≡ 1 →
+        Worked p m w (parts (set (set lessened (2048 + at) (others .front)) (4096 + front-at w) first-field)) 1
+    done-now last =
+        let r = one-now memory all-releasable alone nz same last in
+        let kept : getD (parts (set lessened (2048 + at) (others .front)) .ends) (size-at w) 0 ≡ others .size + 1 =
+        rw (r .rest .same-ends, ends-same, ← size) (omega (arith, own-filled)) in
+        done r (front-stored (set lessened (2048 + at) (others .front)) w first-field (others .size + 1) (place turn) kept)

@@ -1,26 +1,22 @@
 // A worker's work cycle, in place in a job's memory.
 use memory::Deque;
 use memory::Memory;
-ghost use Rattle.memory.specs.Parts.{parts, parts-before, parts-after};
+ghost use Rattle.memory.specs.Parts.{Parts, parts, parts-before, parts-after};
 ghost use Rattle.memory.specs.Words.{Numbers};
-ghost use Rattle.work.specs.Works.{WorkTurn, Worked};
+ghost use Rattle.work.specs.Works.{WorkTurn, LastTick, Worked};
 
-// A work cycle: the front task of the worker's deque is worked and leaves, and its successors that became ready take its place. A task with
-// one successor comes first: where that one became ready, it is the new front and the size stays.
-pub fn work_cycle(memory: &mut Memory, w: usize)
-    requires { ⌜ ((m : Numbers) × WorkTurn (parts (now memory)) m w) ⌝ }
-    ensures { λ _. ⌜ ((m : Numbers) → WorkTurn (parts-before memory) m w →
-        Worked (parts-before memory) m w (parts-after memory)) ⌝ }
+// The front task of the worker's deque had its last tick: it leaves, and its successors that became ready take its place. A task with one
+// successor comes first: where that one became ready, it is the new front and the size stays.
+fn complete(memory: &mut Memory, w: usize, task: usize)
+    requires { ⌜ ((p : Parts) × ((m : Numbers) × LastTick p m w task (parts (now memory)))) ⌝ }
+    ensures { λ _. ⌜ ((p : Parts) (m : Numbers) → LastTick p m w task (parts-before memory) →
+        Worked p m w (parts-after memory) 1) ⌝ }
 {
     let front_at = memory::ENDS + 2 * w;
     let size_at = memory::ENDS + (2 * w + 1);
-    let front = memory[front_at];
     let size = memory[size_at];
-    let task = deque::wide(front);
     let next_at = memory::NEXT + task;
     let rest = memory[next_at];
-    let pending_at = memory::PENDING + task;
-    memory[pending_at] = memory::WORKED_MARK;
     let one = memory[task];
     let second_at = memory::SECOND + task;
     let two = memory[second_at];
@@ -54,4 +50,24 @@ pub fn work_cycle(memory: &mut Memory, w: usize)
         },
     );
     deque::put(memory, w, after);
+}
+
+// A work cycle takes one tick off the front task of the worker's deque. The task stays in front until its last tick, which completes it:
+// then the answer is 1, and else 0.
+pub fn work_cycle(memory: &mut Memory, w: usize) -> u64
+    requires { ⌜ ((m : Numbers) × WorkTurn (parts (now memory)) m w) ⌝ }
+    ensures { λ completed. ⌜ ((m : Numbers) → WorkTurn (parts-before memory) m w →
+        Worked (parts-before memory) m w (parts-after memory) completed) ⌝ }
+{
+    let front_at = memory::ENDS + 2 * w;
+    let front = memory[front_at];
+    let task = deque::wide(front);
+    let span_at = memory::SPANS + task;
+    let span = memory[span_at];
+    memory[span_at] = span - 1;
+    if span % memory::SPAN != 1 {
+        return 0;
+    }
+    complete(memory, w, task);
+    1
 }

@@ -4,19 +4,23 @@ use borrow.Author.Tests.{not-true, not-false}
 use mathlib.Core.Path.{_≡_, refl, sym, _∙_}
 use mathlib.Core.Bool.{true}
 use Rattle.plan_fields.specs.Answers.{answer-of, passes}
-use Rattle.plan.proofs.Answered.{right-refusal, first-due, tasks-refused, refused-9, refused-10, accepted-whole}
+use Rattle.plan.proofs.Answered.{right-refusal, its-width, first-due, tasks-refused, refused-9, refused-10, accepted-whole}
 use Rattle.plan.proofs.read_graph.Statement.{statement}
 use Rattle.plan.proofs.read_graph.Tie as tie
 
 -- the function's entry, and what the tests of the answer, of 9 and of 10 say
 abbrev start : tie.After-passed → tie.Start
-start p = p .before .before .before .before
+start p = p .before .before .before .before .before
 
 holds-8 : (c : tie.Else1) → passes (answer-of (c .before .before .read-tasks .result)) ≡ true
 holds-8 c = sym (c .before .passed .ensures) ∙ not-false _ (c .if1 .left)
 
 read-tasks-requires : tie.Need-read-tasks-requires
-read-tasks-requires c κs = let s = c .before .before in first-due _ _ (s .pre .0) _ (s .pre .1)
+read-tasks-requires c κs =
+    let s = c .before .before .before in (
+      its-width _ _ (s .pre .0) (c .before .task-bytes .ensures),
+      first-due _ _ (s .pre .0) _ (s .pre .1),
+    )
 
 returns : tie.Need-returns
 returns c =
@@ -64,6 +68,6 @@ returns-4 c =
 pub read-graph-spec : {M : Type 1} → statement M
 read-graph-spec =
     tie.close
-    (tie.spec read-tasks-requires (λ c κs. search needs) (λ c κs. search needs) returns (λ c κs. search needs) (λ c κs. search needs)
+    (tie.spec (λ c κs. search needs) read-tasks-requires (λ c κs. search needs) (λ c κs. search needs) returns (λ c κs. search needs) (λ c κs. search needs)
     (λ c κs. search needs) returns-2 (λ c κs. search needs) returns-3 (λ c. search needs) (λ c. search needs) (λ c. search needs)
     (λ c. search needs) (λ c. search needs) returns-4)

@@ -11,26 +11,27 @@ use Rattle.plan.proofs.read_tasks.Statement.{statement}
 use Rattle.plan.proofs.read_tasks.Tie as tie
 
 abbrev Inv-loop : tie.InvT-loop
-Inv-loop bytes n memory₀ t₀ memory t = (t ≤ n) × Due bytes n t (parts memory)
+Inv-loop bytes n width memory₀ t₀ memory t = (t ≤ n) × Due bytes n t (parts memory)
 
 abbrev μ-loop : tie.MeasureT-loop
-μ-loop bytes n memory₀ t₀ memory t = n - t
+μ-loop bytes n width memory₀ t₀ memory t = n - t
 
 -- the loop's head, from where the answer was tested
 abbrev head : tie.After-passed Inv-loop μ-loop → tie.At-loop Inv-loop μ-loop
 head p = p .before .before .before .before
 
 loop-holds : tie.Need-loop-holds Inv-loop μ-loop
-loop-holds c = (omega arith, c .before .pre)
+loop-holds c = (omega arith, c .before .pre .1)
 
 read-task-requires : tie.Need-read-task-requires Inv-loop μ-loop
-read-task-requires c κs = (search needs, c .before .before .loop .inv .1)
+read-task-requires c κs = (search needs, (c .before .before .before .before .pre .0, c .before .before .loop .inv .1))
 
 loop-again : tie.Need-loop-again Inv-loop μ-loop
 loop-again c =
     let inv = head (c .before) .loop .inv in (
       omega arith,
       record {
+        known = inv .1 .known;
         whole = inv .1 .whole;
         number = inv .1 .number;
         held = c .before .before .read-task .ensures .held (passes-is _ (sym (c .before .passed .ensures) ∙ c .if1 .taken));

@@ -9,7 +9,7 @@ use types.Run.{OneOf, miss}
 use Rattle.plan_fields.specs.declared.PlanAnswer.{PlanAnswer}
 use Rattle.plan_fields.specs.declared.PlanAnswer.the-variants.{Accepted, Short, UnknownForm, LowResponsiveness, BadUtilization}
 use Rattle.plan_fields.specs.declared.PlanAnswer.the-variants.{NoQuantum, WrongLength, BadFields, BadSuccessors, BadPredecessors}
-use Rattle.plan_fields.specs.declared.PlanAnswer.the-variants.{LooseEnd}
+use Rattle.plan_fields.specs.declared.PlanAnswer.the-variants.{LooseEnd, NoTicks}
 use Rattle.plan_fields.specs.Answers.{answer-of, passes}
 use Rattle.plan_fields.proofs.PlanAnswer.{the-type}
 use Rattle.plan_fields.proofs.passed.Statement.{statement}
@@ -17,7 +17,7 @@ use Rattle.plan_fields.proofs.passed.Tie as tie
 
 -- the numbers of the cases after the first
 refusals : List ℕ
-refusals = 1 ∷ 2 ∷ 3 ∷ 4 ∷ 5 ∷ 6 ∷ 7 ∷ 8 ∷ 9 ∷ 10 ∷ []
+refusals = 1 ∷ 2 ∷ 3 ∷ 4 ∷ 5 ∷ 6 ∷ 7 ∷ 8 ∷ 9 ∷ 10 ∷ 11 ∷ []
 
 refusal : (a : PlanAnswer) → OneOf refusals (tagOf the-type a) → false ≡ passes (answer-of a)
 unfolding refusals
@@ -32,6 +32,7 @@ refusal BadFields k = refl
 refusal BadSuccessors k = refl
 refusal BadPredecessors k = refl
 refusal LooseEnd k = refl
+refusal NoTicks k = refl
 
 returns-2 : tie.Need-returns-2
 unfolding refusals

@@ -1,35 +1,26 @@
--- `plan_fields::task_answer` meets its contract: each way out is a law of Refusals.
+-- `plan_fields::task_answer` meets its contract: 28 is asked where 7 and 8 pass.
 use borrow.Author.Needs.{needs}
-use native.Mathlib.Omega.{arith}
-use Rattle.plan_fields.proofs.Refusals.{fitting, two-unfit, one-unfit, no-7-count, no-7-second, no-7-first, none}
+use mathlib.Core.Path.{sym, _∙_}
+use Rattle.plan_fields.proofs.Refusals.{no-7-or-8, no-28, yes-to-28}
 use Rattle.plan_fields.proofs.task_answer.Statement.{statement}
 use Rattle.plan_fields.proofs.task_answer.Tie as tie
 
 returns : tie.Need-returns
-returns c = fitting _ _ _ _ _ _ (c .before .fits2 .ensures) (c .if1 .taken)
+returns c =
+    let passing = c .before .before in
+    let asked = passing .before in
+    no-28 _ _ _ (asked .before .fields-answer .ensures) (sym (asked .passed .ensures) ∙ passing .if1 .taken) (c .if2 .taken)
 
 returns-2 : tie.Need-returns-2
-returns-2 c = no-7-count _ _ _ _ _ (omega arith)
+returns-2 c =
+    let passing = c .before .before in
+    let asked = passing .before in
+    yes-to-28 _ _ _ (asked .before .fields-answer .ensures) (sym (asked .passed .ensures) ∙ passing .if1 .taken) (c .if2 .left)
 
 returns-3 : tie.Need-returns-3
 returns-3 c =
-    let unfit = c .before .before .before .before in
-    two-unfit _ _ _ _ _ _ (unfit .before .fits2 .ensures) (unfit .if1 .left) (omega arith)
-
-returns-4 : tie.Need-returns-4
-returns-4 c = no-7-second _ _ _ _ _ (omega arith) (c .if4 .taken)
-
-returns-5 : tie.Need-returns-5
-returns-5 c =
-    let not-two = c .before .before .before .before in
-    let unfit = not-two .before .before .before .before in
-    one-unfit _ _ _ _ _ _ (unfit .before .fits2 .ensures) (unfit .if1 .left) (omega arith) (omega arith)
-
-returns-6 : tie.Need-returns-6
-returns-6 c = no-7-first _ _ _ _ _ (omega arith) (c .if6 .taken)
-
-returns-7 : tie.Need-returns-7
-returns-7 c = none _ _ _ _ _ (omega arith) (omega arith) (omega arith)
+    let asked = c .before in
+    no-7-or-8 _ _ _ (asked .before .fields-answer .ensures) (sym (asked .passed .ensures) ∙ c .if1 .left)
 
 pub task-answer-spec : {M : Type 1} → statement M
-task-answer-spec = tie.close (tie.spec (λ c κs. search needs) returns returns-2 returns-3 returns-4 returns-5 returns-6 returns-7)
+task-answer-spec = tie.close (tie.spec (λ c κs. search needs) (λ c κs. search needs) returns returns-2 returns-3)

@@ -12,28 +12,28 @@ use Rattle.tally.proofs.settle.Tie as tie
 
 abbrev entry : tie.After-usage → tie.Start
 entry c =
-    let works-counted = c .before .before in
-    works-counted .before .before .before .before
+    let done-known = c .before .before in
+    done-known .before .before .before .before
 
 abbrev used : tie.After-add-to → tie.After-usage
 used c = c .before .before
 
-abbrev worked : tie.After-number2 → tie.After-add-to
+abbrev worked : tie.After-number → tie.After-add-to
 worked c = c .before .before .before .before
 
-abbrev start : tie.After-number2 → tie.Start
+abbrev start : tie.After-number → tie.Start
 start c = entry (used (worked c))
 
-abbrev counted : tie.After-add-to3 → tie.After-number2
+abbrev counted : tie.After-add-to3 → tie.After-number
 counted c = c .before .before .before
 
 after-works : (c : tie.After-add-to) → let s = entry (used c) in c .add-to .last .1 .0 ≡ with-works (s .args .t) (now (s .args .words))
 after-works c =
     let s = entry (used c) in
-    works-added (s .args .cycles) (s .args .t) (s .pre) (used c .before .before .number .ensures) (used c .usage .ensures)
+    works-added (s .args .cycles) (s .args .t) (s .pre) (used c .usage .ensures)
     (c .add-to .ensures)
 
-after-steals : (c : tie.After-number2) → let s = start c in
+after-steals : (c : tie.After-number) → let s = start c in
     c .before .add-to2 .last .1 .0 ≡ with-steals (s .args .cycles) (s .args .t) (now (s .args .words))
 after-steals c =
     let s = start c in
@@ -49,13 +49,13 @@ after-mugs c =
 add-words-2 : tie.Need-add-words-2
 add-words-2 c =
     let s = entry c in
-    omega (arith, usage-fits (s .args .cycles) (s .args .t) (s .pre) (c .before .before .number .ensures) (c .usage .ensures))
+    omega (arith, usage-fits (s .args .cycles) (s .args .t) (s .pre) (c .usage .ensures))
 
 add-to-requires : tie.Need-add-to-requires
 add-to-requires c κs =
     let at = c .before in
     let s = entry at in
-    works-fit (s .args .cycles) (s .args .t) (s .pre) (at .before .before .number .ensures) (at .usage .ensures)
+    works-fit (s .args .cycles) (s .args .t) (s .pre) (at .usage .ensures)
 
 add-to-requires-2 : tie.Need-add-to-requires-2
 add-to-requires-2 c κs =
@@ -66,7 +66,7 @@ add-to-requires-2 c κs =
 returns : tie.Need-returns
 returns c =
     let s = start (c .before) in
-    settled-unmugged (s .args .cycles) (s .args .t) (s .pre) (after-steals (c .before)) (c .before .number2 .ensures) (c .if1 .taken)
+    settled-unmugged (s .args .cycles) (s .args .t) (s .pre) (after-steals (c .before)) (c .before .number .ensures) (c .if1 .taken)
 
 add-to-requires-3 : tie.Need-add-to-requires-3
 add-to-requires-3 c κs =
@@ -78,24 +78,23 @@ add-words-3 : tie.Need-add-words-3
 add-words-3 c =
     let at = counted (c .before) in
     let s = start at in
-    omega (arith, head-fits (s .args .cycles) (s .args .t) (s .pre) (after-mugs (c .before)) (at .number2 .ensures))
+    omega (arith, head-fits (s .args .cycles) (s .args .t) (s .pre) (after-mugs (c .before)) (at .number .ensures))
 
 sub-words : tie.Need-sub-words
 sub-words c =
     let at = counted (c .before .before) in
     let s = start at in
     rw head-aside
-    (omega (arith, enough-wait (s .args .cycles) (s .args .t) (s .pre) (after-mugs (c .before .before)) (at .number2 .ensures)))
+    (omega (arith, enough-wait (s .args .cycles) (s .args .t) (s .pre) (after-mugs (c .before .before)) (at .number .ensures)))
 
 returns-2 : tie.Need-returns-2
 returns-2 c =
     let at = counted (c .before .before) in
     let s = start at in
-    settled-mugged (s .args .cycles) (s .args .t) (s .pre) (after-mugs (c .before .before)) (at .number2 .ensures)
+    settled-mugged (s .args .cycles) (s .args .t) (s .pre) (after-mugs (c .before .before)) (at .number .ensures)
 
 pub settle-spec : {M : Type 1} → statement M
 settle-spec =
     tie.close
-    (tie.spec (λ c. search needs) (λ c κs. search needs) (λ c. search needs) (λ c. search needs) (λ c. search needs) (λ c κs. search needs)
-    add-words-2 (λ c. search needs) add-to-requires (λ c κs. search needs) add-to-requires-2 (λ c κs. search needs) returns
+    (tie.spec (λ c. search needs) (λ c. search needs) (λ c. search needs) (λ c. search needs) (λ c κs. search needs) add-words-2 (λ c. search needs) add-to-requires (λ c κs. search needs) add-to-requires-2 (λ c κs. search needs) returns
     add-to-requires-3 (λ c. search needs) add-words-3 (λ c. search needs) (λ c. search needs) sub-words (λ c. search needs) returns-2)
