@@ -71,7 +71,8 @@ module _ {plan : Plan} {calls : List Call} {memory words : List ℕ} (g : ℕ) (
     granted-kept =
         let same = granted .same-parts in
         record {
-          pending-right = rw (same .same-pending, same .same-spans, same .same-first, same .same-second, same-tasks) (r .kept .pending-right);
+          pending-right =
+              rw (same .same-pending, same .same-spans, same .same-first, same .same-second, same-tasks) (r .kept .pending-right);
           done-right = rw (same .same-spans, same-tasks) (ap (λ (m : Numbers). m .done) (granted .numbers) ∙ r .kept .done-right);
           head-in-ring = rw (ap (λ (m : Numbers). m .head) (granted .numbers)) (r .kept .head-in-ring);
         }

@@ -7,10 +7,9 @@ use native.Mathlib.Omega.{arith}
 use Rattle.model.specs.Plan.{Plan}
 use Rattle.model.specs.Machine.{State, Call}
 use Rattle.model.specs.History.{run}
-use Rattle.model.specs.Statements.{SoundPlan}
+use Rattle.model.specs.Statements.{SoundPlan, WithinBounds}
 use Rattle.laws.specs.Reached.{Arranged, Measured, CountsFit}
 use Rattle.laws.proofs.Theorems.{arranged, measured, counts-fit, desire-is-power}
-use Rattle.plan.specs.Rules.{WithinBounds}
 use Rattle.plan.proofs.Sound.{accepted-sound, within-bounds}
 use Rattle.quantum.specs.Closing.{Power}
 use Rattle.memory.specs.declared.Job.{Job}
@@ -41,8 +40,7 @@ module _ {plan : Plan} {calls : List Call} {job : Job} (r : Reached plan calls j
 
   pub known-numbers : CountsFit (job-state job)
   known-numbers =
-      let bounds = plan-bounds (r .accepted-plan) in
-      rw (r .its-state) (counts-fit (plan-sound (r .accepted-plan)) calls (bounds .quantum-most) (bounds .tasks-most) (bounds .durations-most))
+      rw (r .its-state) (counts-fit (plan-sound (r .accepted-plan)) calls (plan-bounds (r .accepted-plan)))
 
   -- the desire is a power of R
   pub known-power : Power (terms-in (job .words) .responsiveness) (desire-in (job .words))

@@ -1,5 +1,5 @@
--- Demands 2 and 3, request U6's sum and request U9's ticks, over a job that a plan and a list of calls, refused ones included, reach. The history is made from
--- the plan and the calls alone; what the job shows is compared with it.
+-- Demands 2 and 3, request U6's sum and request U9's ticks, over a job that a plan and a list of calls, refused ones included, reach. The
+-- history is made from the plan and the calls alone; what the job shows is compared with it.
 use mathlib.Core.Path.{_≡_}
 use mathlib.Core.Bool.{true, false}
 use mathlib.Core.Logic.{_↔_}

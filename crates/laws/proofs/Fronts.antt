@@ -1,5 +1,5 @@
--- Only a front task may be begun: a work tick is at a front task and leaves it in front until its last one, a thief leaves the front, and mugging
--- and withdrawal move whole deques. After every call, and after every worker's cycle.
+-- Only a front task may be begun: a work tick is at a front task and leaves it in front until its last one, a thief leaves the front, and
+-- mugging and withdrawal move whole deques. After every call, and after every worker's cycle.
 -- Assumes nothing.
 use mathlib.Core.Path.{_≡_, refl, sym, ap, _∙_}
 use mathlib.Core.Logic.{_⊎_, inl, inr}
@@ -58,7 +58,8 @@ same-front x rest (y ∷ left) taken some e = (left, ap (λ (n : ℕ). n ∷ lef
 
 module _ {plan : Plan} {e : Execution} (fronts : FrontsBegun plan e) (w : ℕ) (here : w < length (e .deques)) where
   -- where another deque than w's had it in front, it has it still
-  set-front : (x : ℕ) (d : List ℕ) → FrontIn x (e .deques) → ((rest : List ℕ) → deque-of e w ≡ x ∷ rest → ⊥) → FrontIn x (set (e .deques) w d)
+  set-front : (x : ℕ) (d : List ℕ) → FrontIn x (e .deques) → ((rest : List ℕ) → deque-of e w ≡ x ∷ rest → ⊥) →
+      FrontIn x (set (e .deques) w d)
   set-front x d (rest, m) other =
       let r = place-in (x ∷ rest) (e .deques) m in
       front-at x rest (set (e .deques) w d) (r .0) (lt-length-set (e .deques) w d (r .1))
@@ -85,7 +86,8 @@ module _ {plan : Plan} {e : Execution} (fronts : FrontsBegun plan e) (w : ℕ) (
           front-at x rest (set (e .deques) w new) w (lt-length-set (e .deques) w new here)
           (getD-set-same (e .deques) w new [] here ∙ rw same stays)
 
-      another : eqb x t ≡ false → FrontIn x (e .deques) ⊎ FrontIn x (e .muggable) → FrontIn x (set (e .deques) w new) ⊎ FrontIn x (e .muggable)
+      another : eqb x t ≡ false → FrontIn x (e .deques) ⊎ FrontIn x (e .muggable) →
+          FrontIn x (set (e .deques) w new) ⊎ FrontIn x (e .muggable)
       another q (inl f) = inl (set-front x new f (λ r p. eqb-false x t q (ap (λ (d : List ℕ). getD d 0 0) (sym p ∙ own))))
       another q (inr f) = inr f
 
@@ -204,7 +206,8 @@ started-grant {plan} s on g fronts x b = rw on (go (fronts x (record { some-done
     go (inl (rest, m)) = let p = place-in (x ∷ rest) ds m in by-place (p .0) rest (p .1) (p .2) (ltb (p .0) g) refl
     go (inr (rest, m)) = inr (rest, Memᴰ·append-left (withdrawn-deques g ds) m)
 
-grant-fronts : {plan : Plan} (s : State) → Arranged plan s → (g : ℕ) → FrontsBegun plan (s .execution) → FrontsBegun plan (grant g s .execution)
+grant-fronts : {plan : Plan} (s : State) → Arranged plan s → (g : ℕ) → FrontsBegun plan (s .execution) →
+    FrontsBegun plan (grant g s .execution)
 grant-fronts {plan} s a g fronts = go (s .started) refl
   where
     go : (b : Bool) → s .started ≡ b → FrontsBegun plan (grant g s .execution)

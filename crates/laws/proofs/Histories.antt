@@ -11,12 +11,12 @@ use lib.Dec.{eqb, leb}
 use lib.ListN.{length}
 use borrow.Author.Tests.{eqb-false, ne-eqb, leb-true}
 use Rattle.model.specs.Tests.{total}
-use Rattle.model.specs.Plan.{Plan, Terms, Graph, tasks, duration-of, most-tasks, longest-quantum, longest-duration}
-use Rattle.model.specs.Machine.{worked, Execution, State, allotment, idle, opened, ticks-of, fresh, grant, cycles, cycles-made, tick, ticked}
-use Rattle.model.specs.Machine.{closes, closed, finished, most-workers, next-desire, Call, efficient-now, satisfied-now}
+use Rattle.model.specs.Plan.{Plan, Terms, tasks, longest-duration}
+use Rattle.model.specs.Machine.{worked, Execution, State, allotment, idle, opened, ticks-of, fresh, grant, cycles, cycles-made, tick}
+use Rattle.model.specs.Machine.{ticked, closes, closed, finished, most-workers, next-desire, Call, efficient-now, satisfied-now}
 use Rattle.model.specs.History.{ClosedQuantum, CurrentQuantum, none, begun-with, History, beginning, history-grant, history-tick, verdict}
 use Rattle.model.specs.History.{run}
-use Rattle.model.specs.Statements.{SoundPlan}
+use Rattle.model.specs.Statements.{SoundPlan, WithinBounds}
 use Rattle.laws.specs.Invariants.{busy, Placed, Bounded, Tallied}
 use Rattle.model.specs.WholeTicks.{all-counted}
 use Rattle.laws.specs.Reached.{Unstarted, Arranged, granted-in, largest-closed, largest-granted, OpenQuantum, Measured}
@@ -343,20 +343,20 @@ module _ {plan : Plan} (sound : SoundPlan plan) where
 
 -- ---- in numbers
 
-pub counts-fit : {plan : Plan} → SoundPlan plan → plan .terms .quantum-length ≤ longest-quantum → tasks (plan .graph) ≤ most-tasks →
-    ((t : ℕ) → duration-of plan t ≤ longest-duration) → (calls : List Call) → CountsFit (run plan calls .state)
-counts-fit {plan} sound short small brief calls =
+pub counts-fit : {plan : Plan} → SoundPlan plan → WithinBounds plan → (calls : List Call) → CountsFit (run plan calls .state)
+counts-fit {plan} sound widths calls =
     let m = measured sound calls in
-    let product = mul-le-mul short (m .quanta) in
+    let product = mul-le-mul (widths .quantum-most) (m .quanta) in
     record {
       work =
           omega (
             arith,
             work-at-most (arranged sound calls),
-            total-at-most longest-duration (plan .durations) brief,
+            total-at-most longest-duration (plan .durations) (widths .durations-most),
             sound .each-lasts,
+            widths .tasks-most,
           );
-      usage = omega (arith, m .usage-at-most);
+      usage = omega (arith, m .usage-at-most, widths .quantum-most);
       all-cycles = omega (arith, m .cycles-at-most);
       successes = omega (arith, m .cycles-at-most, m .successful);
       begun = m .quanta;

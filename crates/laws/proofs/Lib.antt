@@ -3,8 +3,8 @@
 -- Stealing, Thefts: what a steal takes and leaves. Withdrawals, Muggings: in which order a grant withdraws deques, and they are mugged.
 -- WorkTicks: the two cases of a work tick. Cycles, Placement, Bounds, Grants: what a worker's cycle, a tick's cycles and a grant keep.
 -- Accepted, Runs: accepted calls, and how a property is carried through a list of calls. Histories: where the tasks stand and how large the
--- counts are after any calls. Progress: some worker works or mugs. Order: each task once and in order, and its ticks. Fronts: only a front task
--- is begun. Meaning: what the counts count.
+-- counts are after any calls. Progress: some worker works or mugs. Order: each task once and in order, and its ticks. Fronts: only a
+-- front task is begun. Meaning: what the counts count.
 -- WholeTicks: what they add up to, and the tick that finishes a job.
 -- Counting: what a tick's cycles spend. Ladder: what is used of the desires, and that the powers of R have it. Powers: the open quantum,
 -- and what a quantum's end does to the desire. Tops: the table of top desires, and that the desire stops there.

@@ -1,5 +1,5 @@
--- How often a number stands in the first places of a list: its own place counts, and a last place has all. And that a list's length is the sum
--- of how often each number stands in it.
+-- How often a number stands in the first places of a list: its own place counts, and a last place has all. And that a list's length is the
+-- sum of how often each number stands in it.
 -- Assumes nothing.
 use mathlib.Core.Path.{_≡_, refl, sym, ap, _∙_}
 use mathlib.Core.Bool.{Bool, true, false, cond}

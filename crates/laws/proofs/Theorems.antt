@@ -2,12 +2,12 @@
 -- included. The statements are those of model's specs/Statements.antt and of specs/ here. A stranger reads this first.
 -- Assumes nothing.
 use mathlib.Core.List.{List}
-use Prim.Native.Nat.{ℕ, _≤_}
-use Rattle.model.specs.Plan.{Plan, tasks, duration-of, most-tasks, longest-quantum, longest-duration}
+use Prim.Native.Nat.{_≤_}
+use Rattle.model.specs.Plan.{Plan}
 use Rattle.model.specs.Machine.{Call}
 use Rattle.model.specs.History.{run}
 use Rattle.model.specs.Statements.{SoundPlan, Progress, Demand3, MugBound, OneIsEfficient, DesireIsPower, OnceAndInOrder, FinishedExactly}
-use Rattle.model.specs.Statements.{StopsAtTop, EndsAsRecorded}
+use Rattle.model.specs.Statements.{StopsAtTop, EndsAsRecorded, WithinBounds}
 use Rattle.model.specs.Thefts.{StealsHalf}
 use Rattle.model.specs.Muggings.{MuggedInTurn}
 use Rattle.model.specs.WholeTicks.{WholeTicks}
@@ -113,9 +113,8 @@ module _ {plan : Plan} (sound : SoundPlan plan) (calls : List Call) where
   measured = Histories.measured sound calls
 
   -- the same in numbers, for fields of document 01's widths: no sum of the code can wrap
-  pub counts-fit : plan .terms .quantum-length ≤ longest-quantum → tasks (plan .graph) ≤ most-tasks →
-      ((t : ℕ) → duration-of plan t ≤ longest-duration) → CountsFit (run plan calls .state)
-  counts-fit short small brief = Histories.counts-fit sound short small brief calls
+  pub counts-fit : WithinBounds plan → CountsFit (run plan calls .state)
+  counts-fit widths = Histories.counts-fit sound widths calls
 
   -- a grant meets 13 only where every tick of every quantum that may begin is used up: in quanta without a worker, or each with a work or
   -- mug cycle

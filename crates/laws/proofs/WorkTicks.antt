@@ -1,5 +1,5 @@
--- A work tick at a task that is not worked, in two cases: the task goes on, and no flag and no deque changes; or it was its last tick, and it is
--- completed, leaves its deque, and its successors that became ready come in its place.
+-- A work tick at a task that is not worked, in two cases: the task goes on, and no flag and no deque changes; or it was its last tick, and
+-- it is completed, leaves its deque, and its successors that became ready come in its place.
 -- Assumes nothing.
 use mathlib.Core.Path.{_≡_, refl, sym, _∙_}
 use mathlib.Core.Bool.{Bool, true, false}

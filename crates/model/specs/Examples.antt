@@ -399,8 +399,8 @@ lasting-rows =
     ∷ row (ticks-left (lasting-diamond 1) (grants 1 ∷ one-works 1 ++ (grants 0 ∷ ticks [] ∷ []))) (1 ∷ 0 ∷ 1 ∷ 3 ∷ 1 ∷ 2 ∷ [])
     ∷ row (ticks-left (lasting-diamond 1) (grants 1 ∷ one-works 1 ++ (grants 0 ∷ ticks [] ∷ grants 1 ∷ one-works 1)))
     (1 ∷ 0 ∷ 1 ∷ 3 ∷ 1 ∷ 2 ∷ [])
-    ∷ row (ticks-left (lasting-diamond 1) (grants 1 ∷ one-works 1 ++ (grants 0 ∷ ticks [] ∷ grants 1 ∷ one-works 1 ++ (grants 1 ∷ one-works 1))))
-    (2 ∷ 1 ∷ 2 ∷ 0 ∷ 3 ∷ 1 ∷ 2 ∷ [])
+    ∷ row (ticks-left (lasting-diamond 1)
+    (grants 1 ∷ one-works 1 ++ (grants 0 ∷ ticks [] ∷ grants 1 ∷ one-works 1 ++ (grants 1 ∷ one-works 1)))) (2 ∷ 1 ∷ 2 ∷ 0 ∷ 3 ∷ 1 ∷ 2 ∷ [])
     ∷ row (ticks-left (lasting-diamond 3) (grants 1 ∷ one-works 3 ++ (grants 2 ∷ ticks (0 ∷ 0 ∷ []) ∷ [])))
     (1 ∷ 1 ∷ 1 ∷ 2 ∷ 0 ∷ 1 ∷ 1 ∷ 2 ∷ [])
     -- a round is judged by its work ticks: two of two are efficient at 100 percent, although no piece is worked
@@ -660,23 +660,26 @@ rows = document-rows ++ our-rows
 
 -- every row holds
 pub table : failing 0 rows ≡ []
-unfolding same row-holds failing task lasting form-bytes plan-bytes diamond one-task seven easy-seven wide-seven ten thirteen four-lines link chain refusal
-    after-calls quantum-kept shown-from shown answered listed placed labelled document-rows seven-tasks header-fields fields-of task-fields fresh-with
-    grant-number quantum-shown current-shown history-shown shown-twice half-of-five three-thieves two-withdrawn four-at-work two-grants
-    three-at-work then-three counted sums statuses-from statuses lasting-diamond one-lasting after-first one-works one-logged ticks-left plan-rows form-rows lasting-rows grant-rows withdrawal-rows tick-rows steal-rows last-tick-rows
-    quantum-rows log-rows program-rows our-rows rows below every keep member count-set all-set occurrences zeros first-no flatMap Plan.predecessors
-    Plan.number Plan.header Plan.forms Plan.is-form Plan.form-with Plan.form-of Plan.task-bits Plan.duration-field Plan.successor-fields Plan.plan-of Plan.fields-ok Plan.two-differ Plan.targets-ok
-    Plan.task-questions Plan.all-preceded Plan.one-exit Plan.header-questions Plan.graph-questions Plan.plan-questions Plan.plan-answer
-    Machine.finished Machine.fresh Machine.grant-questions Machine.kept-deques Machine.withdrawn-deques Machine.first-task-placed
-    Machine.grant Machine.tick-questions Machine.cycle-of Machine.ready Machine.released Machine.stolen-count Machine.left-by-steal
-    Machine.taken-by-steal Machine.worked-deque Machine.work-cycle Machine.mug-cycle Machine.successful-steal Machine.failed-steal Machine.cycle Machine.turn-of
-    Machine.turn Machine.cycles Machine.cycles-made Machine.ticked Machine.efficient Machine.satisfied Machine.next-desire Machine.closes
-    Machine.closed Machine.tick Machine.top-desires Machine.call-answer Machine.step Machine.status History.beginning History.history-grant
-    History.history-tick History.history-step History.run-from History.run History.tasks-in WholeTicks.accepted-calls
-    WholeTicks.granted-ticks Log.entries-up-to Log.entries Log.run-calls Log.run-log Log.log-answer Label.lines-from Label.lines
-    Label.label-answer Label.label Counters.decimal-up-to Counters.decimal Counters.spaced Counters.counters Counters.counters-line
-    Counters.counters-answer Counters.buffer-after Digits.first-above Digits.digit-count Program.plan-length Program.plan-part
-    Program.log-part Program.input-questions Program.refused-line Program.log-output Program.program
+unfolding same row-holds failing task lasting form-bytes plan-bytes diamond one-task seven easy-seven wide-seven ten thirteen four-lines
+    link chain refusal after-calls quantum-kept shown-from shown answered listed placed labelled document-rows seven-tasks header-fields
+    fields-of task-fields fresh-with grant-number quantum-shown current-shown history-shown shown-twice half-of-five three-thieves
+    two-withdrawn four-at-work two-grants three-at-work then-three counted sums statuses-from statuses lasting-diamond one-lasting
+    after-first one-works one-logged ticks-left plan-rows form-rows lasting-rows grant-rows withdrawal-rows tick-rows steal-rows
+    last-tick-rows quantum-rows log-rows program-rows our-rows rows below every keep member count-set all-set occurrences zeros first-no
+    flatMap Plan.predecessors Plan.number Plan.header Plan.forms Plan.is-form Plan.form-with Plan.form-of Plan.task-bits
+    Plan.duration-field Plan.successor-fields Plan.plan-of Plan.fields-ok Plan.two-differ Plan.targets-ok Plan.task-questions
+    Plan.all-preceded Plan.one-exit Plan.header-questions Plan.graph-questions Plan.plan-questions Plan.plan-answer Machine.finished
+    Machine.fresh Machine.grant-questions Machine.kept-deques Machine.withdrawn-deques Machine.first-task-placed Machine.grant
+    Machine.tick-questions Machine.cycle-of Machine.ready Machine.released Machine.stolen-count Machine.left-by-steal
+    Machine.taken-by-steal Machine.worked-deque Machine.work-cycle Machine.mug-cycle Machine.successful-steal Machine.failed-steal
+    Machine.cycle Machine.turn-of Machine.turn Machine.cycles Machine.cycles-made Machine.ticked Machine.efficient Machine.satisfied
+    Machine.next-desire Machine.closes Machine.closed Machine.tick Machine.top-desires Machine.call-answer Machine.step Machine.status
+    History.beginning History.history-grant History.history-tick History.history-step History.run-from History.run History.tasks-in
+    WholeTicks.accepted-calls WholeTicks.granted-ticks Log.entries-up-to Log.entries Log.run-calls Log.run-log Log.log-answer
+    Label.lines-from Label.lines Label.label-answer Label.label Counters.decimal-up-to Counters.decimal Counters.spaced
+    Counters.counters Counters.counters-line Counters.counters-answer Counters.buffer-after Digits.first-above Digits.digit-count
+    Program.plan-length Program.plan-part Program.log-part Program.input-questions Program.refused-line Program.log-output
+    Program.program
 table = refl
 
 -- examples 3 and 4 by themselves, for a program that meets them from contracts alone: Plan A is accepted, a first grant of 2 is refused by

@@ -1,6 +1,6 @@
--- Request U9 as statements: pieces that last. "A front piece stays until its ticks are done; its followers come after the last one. When its
--- worker is withdrawn, or its line is picked up, the ticks done so far are kept. Only a front piece may be begun. .. W counts work ticks".
--- They are proved in the crate `laws`.
+-- Request U9 as statements: pieces that last. "A front piece stays until its ticks are done; its followers come after the last one. When
+-- its worker is withdrawn, or its line is picked up, the ticks done so far are kept. Only a front piece may be begun. .. W counts work
+-- ticks". They are proved in the crate `laws`.
 use mathlib.Core.Path.{_≡_}
 use mathlib.Core.Logic.{_⊎_}
 use mathlib.Core.List.{List, [], _∷_, map, List·Memᴰ}

@@ -2,8 +2,8 @@
 -- Tests, Questions: the few tools that the rest is said with.
 -- Plan, Machine, History: the method. Log, Label, Counters, Program: what stands on it. Digits: how long the counters line is.
 -- Statements: what is promised of every list of calls. Thefts: what is promised of a steal (request U1). Muggings: in which order withdrawn
--- deques are mugged (request U8). WholeTicks: what a job's ticks add up to (request U6). Lasting: the ticks of a task, and where a begun one
--- stands (request U9). Examples: the worked examples as one table, which the checker computes.
+-- deques are mugged (request U8). WholeTicks: what a job's ticks add up to (request U6). Lasting: the ticks of a task, and where a begun
+-- one stands (request U9). Examples: the worked examples as one table, which the checker computes.
 pub mod Tests
 pub mod Questions
 pub mod Plan

@@ -231,9 +231,10 @@ counted-steal success c =
       usage = c .usage;
     }
 
--- the deque of a worker that did a work tick at its front task t, where so many ticks are left afterwards: not "The front piece is worked and
--- leaves" at once, as in document 01. Request U9: "A front piece stays until its ticks are done; its followers come after the last one."
--- Then, as in document 01, it leaves, and "Of its followers that became ready, the second goes to the front, then the first before it."
+-- the deque of a worker that did a work tick at its front task t, where so many ticks are left afterwards: not "The front piece is worked
+-- and leaves" at once, as in document 01. Request U9: "A front piece stays until its ticks are done; its followers come after the last
+-- one." Then, as in document 01, it leaves, and "Of its followers that became ready, the second goes to the front, then the first before
+-- it."
 unfoldable pub worked-deque : Graph → List ℕ → ℕ → List ℕ → List ℕ
 worked-deque graph left t deque = cond (eqb (getD left t 0) 0) (released graph (zeros left) t ++ tail deque) deque
 

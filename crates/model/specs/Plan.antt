@@ -90,8 +90,8 @@ pub record Form : Type 0 where
   pub task-bytes : ℕ  -- the bytes of a task
   pub duration-bits : ℕ  -- its last so many bits are its ticks; where they are none every task lasts one tick
 
--- the forms. Document 01: "Then 24 bits a piece". Request U9: "Plan form 2 has the same header and 32 bits a piece: the three old fields and
--- 8 bits of ticks"
+-- the forms. Document 01: "Then 24 bits a piece". Request U9: "Plan form 2 has the same header and 32 bits a piece: the three old fields
+-- and 8 bits of ticks"
 unfoldable pub forms : List Form
 forms =
     record { code = 1; task-bytes = 3; duration-bits = 0 }

@@ -8,7 +8,8 @@ use Prim.Native.Nat.{ℕ, suc, _+_, _*_, _-_, _≤_, _<_}
 use lib.ListN.{length, getD, take}
 use Rattle.model.specs.Tests.{occurrences}
 use Rattle.model.specs.Questions.{accepted}
-use Rattle.model.specs.Plan.{Plan, Terms, Graph, tasks, successors-of, predecessors, duration-of}
+use Rattle.model.specs.Plan.{Plan, Terms, Graph, tasks, successors-of, predecessors, duration-of, most-tasks, longest-quantum}
+use Rattle.model.specs.Plan.{longest-duration}
 use Rattle.model.specs.Machine.{worked, State, Call, ticks, call-answer, allotment, status, desire-at, most-workers}
 use Rattle.model.specs.Machine.{ticked, closes, efficient-now, satisfied-now, next-desire, top-desire}
 use Rattle.model.specs.History.{ClosedQuantum, History, run, history-step, work-count, mug-count, work-order}
@@ -40,6 +41,13 @@ pub record SoundPlan (plan : Plan) : Type 0 where
   -- every task lasts a tick or more
   pub each-lasts : length (plan .durations) ≡ tasks (plan .graph)
   pub lasting : (t : ℕ) → t < tasks (plan .graph) → 1 ≤ duration-of plan t
+
+-- what the field widths bound
+pub record WithinBounds (plan : Plan) : Type 0 where
+  pub tasks-most : tasks (plan .graph) ≤ most-tasks
+  pub quantum-most : plan .terms .quantum-length ≤ longest-quantum
+  pub responsiveness-most : plan .terms .responsiveness ≤ 7
+  pub durations-most : (t : ℕ) → duration-of plan t ≤ longest-duration
 
 -- ---- demand 3
 

@@ -162,9 +162,10 @@ task-facts bytes t h =
 pub task-accepted : (bytes : List ℕ) (t : ℕ) → TaskFacts bytes t → first-no (task-questions bytes t) ≡ accepted
 unfolding task-questions successor-fields first-no
 task-accepted bytes t h =
+    let used = used-fields (count-field bytes t) (first-field bytes t) (second-field bytes t) in
     let most = used-most (count-field bytes t) (first-field bytes t) (second-field bytes t) in
     rw (
       fields-accepted (count-field bytes t) (first-field bytes t) (second-field bytes t) (h .fields),
-      targets-accepted (task-count bytes) t (used-fields (count-field bytes t) (first-field bytes t) (second-field bytes t)) most (h .targets),
+      targets-accepted (task-count bytes) t used most (h .targets),
       le-leb 1 (duration-field bytes t) (h .lasts),
     )

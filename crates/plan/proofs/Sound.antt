@@ -15,8 +15,8 @@ use Rattle.model.specs.Plan.{Graph, tasks, successors-of, predecessors}
 use Rattle.model.specs.Plan.{task-count, count-field, first-field, second-field, successor-fields}
 use Rattle.model.specs.Plan.{plan-of, task-questions, header-questions, graph-questions, all-preceded, one-exit, plan-questions}
 use Rattle.model.specs.Plan.{plan-answer}
-use Rattle.model.specs.Statements.{SoundGraph, SoundPlan}
-use Rattle.plan.specs.Rules.{WellFormed, PlanRules, WithinBounds, Leads, nowhere, onward}
+use Rattle.model.specs.Statements.{SoundGraph, SoundPlan, WithinBounds}
+use Rattle.plan.specs.Rules.{WellFormed, PlanRules, Leads, nowhere, onward}
 use Rattle.lists.proofs.Tests.{and-left, and-right, both}
 use Rattle.lists.proofs.Lists.{every-at, every-from, below-has, below-is, is-member}
 use Rattle.lists.proofs.Ranges.{mem-from-one, from-one-mem, keep-some}

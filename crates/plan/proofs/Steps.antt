@@ -8,7 +8,8 @@ use native.Mathlib.Omega.{arith}
 use lib.ListN.{getD}
 use Rattle.model.specs.Tests.{below, member}
 use Rattle.model.specs.Questions.{Question, Answer, accepted, refused, first-no}
-use Rattle.model.specs.Plan.{number, header, form-of, task-bits, duration-field, task-count, count-field, first-field, second-field, used-fields, successor-fields}
+use Rattle.model.specs.Plan.{number, header, form-of, task-bits, duration-field, task-count, count-field, first-field, second-field}
+use Rattle.model.specs.Plan.{used-fields, successor-fields}
 use Rattle.model.specs.Plan.{task-questions}
 use Rattle.memory.specs.Parts.{Parts, with-pending}
 use Rattle.plan_fields.specs.Fields.{five-bytes, pair-questions, asked-of-task, TaskOf}
@@ -106,41 +107,43 @@ module _ {bytes : List ℕ} {t : ℕ} {p p-fields : Parts} (h : Held bytes t p) 
 
 -- ---- one task, as the code reads it
 
-module _ (bytes : List ℕ) (n t : ℕ) (f : TaskFields) (number : n ≡ task-count bytes) (at-task : TaskOf (form-of bytes) (task-bits bytes t) f)
-  where
-    asked-as-read : first-no (asked-of-task n t f) ≡ first-no (task-questions bytes t)
-    unfolding asked-of-task pair-questions task-questions successor-fields duration-field
-    asked-as-read = rw (number, at-task .count-read, at-task .first-read, at-task .second-read, at-task .ticks-read)
+module _ (bytes : List ℕ) (n t : ℕ) (f : TaskFields) (number : n ≡ task-count bytes)
+    (at-task : TaskOf (form-of bytes) (task-bits bytes t) f) where
+  asked-as-read : first-no (asked-of-task n t f) ≡ first-no (task-questions bytes t)
+  unfolding asked-of-task pair-questions task-questions successor-fields duration-field
+  asked-as-read = rw (number, at-task .count-read, at-task .first-read, at-task .second-read, at-task .ticks-read)
 
-    ticks-are : f .ticks ≡ duration-field bytes t
-    unfolding duration-field
-    ticks-are = at-task .ticks-read
+  ticks-are : f .ticks ≡ duration-field bytes t
+  unfolding duration-field
+  ticks-are = at-task .ticks-read
 
-    module _ (r : PlanAnswer) (answered : answer-of r ≡ first-no (asked-of-task n t f)) where
-      pub read-refused : (p : Parts) → passes (answer-of r) ≡ false → TaskRead bytes t r p
-      read-refused p fails =
-          record { answered = answered ∙ asked-as-read; held = λ passed. absurd (passes-not (answer-of r) fails passed) }
+  module _ (r : PlanAnswer) (answered : answer-of r ≡ first-no (asked-of-task n t f)) where
+    pub read-refused : (p : Parts) → passes (answer-of r) ≡ false → TaskRead bytes t r p
+    read-refused p fails =
+        record { answered = answered ∙ asked-as-read; held = λ passed. absurd (passes-not (answer-of r) fails passed) }
 
-      module _ (holds : passes (answer-of r) ≡ true) where
-        task-passed : first-no (task-questions bytes t) ≡ accepted
-        task-passed = sym (answered ∙ asked-as-read) ∙ passes-is (answer-of r) holds
+    module _ (holds : passes (answer-of r) ≡ true) where
+      task-passed : first-no (task-questions bytes t) ≡ accepted
+      task-passed = sym (answered ∙ asked-as-read) ∙ passes-is (answer-of r) holds
 
-        pub first-small : f .first < 1024
-        first-small = rw (at-task .first-read) (omega (arith, first-inside bytes t task-passed))
+      pub first-small : f .first < 1024
+      first-small = rw (at-task .first-read) (omega (arith, first-inside bytes t task-passed))
 
-        pub second-small : f .second < 1024
-        second-small = rw (at-task .second-read) (omega (arith, second-inside bytes t task-passed))
+      pub second-small : f .second < 1024
+      second-small = rw (at-task .second-read) (omega (arith, second-inside bytes t task-passed))
 
-        -- the fields and the span stored, and then the fields noted
-        pub read-passed : (p p-fields p-1 p-2 : Parts) → t < n → Held bytes t p →
-            p-fields ≡ with-fields p t (f .first) (f .second) (fresh-span (f .ticks)) →
-            p-1 ≡ with-pending p-fields (noted (p-fields .pending) (f .first)) → p-2 ≡ with-pending p-1 (noted (p-1 .pending) (f .second)) →
-            TaskRead bytes t r p-2
-        read-passed p p-fields p-1 p-2 l h e e-1 e-2 =
-            record {
-              answered = answered ∙ asked-as-read;
-              held = λ _. rw (e-2, e-1, e, at-task .first-read, at-task .second-read, ticks-are) (held-more bytes t task-passed p (omega arith) h);
-            }
+      -- the fields and the span stored, and then the fields noted
+      pub read-passed : (p p-fields p-1 p-2 : Parts) → t < n → Held bytes t p →
+          p-fields ≡ with-fields p t (f .first) (f .second) (fresh-span (f .ticks)) →
+          p-1 ≡ with-pending p-fields (noted (p-fields .pending) (f .first)) → p-2 ≡ with-pending p-1 (noted (p-1 .pending) (f .second)) →
+          TaskRead bytes t r p-2
+      read-passed p p-fields p-1 p-2 l h e e-1 e-2 =
+          record {
+            answered = answered ∙ asked-as-read;
+            held = λ _.
+                rw (e-2, e-1, e, at-task .first-read, at-task .second-read, ticks-are)
+                (held-more bytes t task-passed p (omega arith) h);
+          }
 
 -- ---- all tasks
 

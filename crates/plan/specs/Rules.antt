@@ -4,8 +4,7 @@ use mathlib.Core.Bool.{true}
 use mathlib.Core.List.{List, List·Memᴰ}
 use Prim.Native.Nat.{ℕ, _+_, _*_, _≤_, _<_}
 use lib.ListN.{length}
-use Rattle.model.specs.Plan.{Graph, Plan, most-tasks, longest-quantum, longest-duration, tasks, successors-of, duration-of}
-use Rattle.model.specs.Plan.{forms, is-form, form-of}
+use Rattle.model.specs.Plan.{Graph, successors-of, forms, is-form, form-of}
 use Rattle.model.specs.Plan.{form-field, task-count, count-field, first-field, second-field, plan-of}
 use Rattle.model.specs.Statements.{SoundPlan}
 
@@ -22,13 +21,6 @@ pub record WellFormed (bytes : List ℕ) : Type 0 where
 pub record PlanRules (bytes : List ℕ) : Type 0 where
   pub well-formed : WellFormed bytes
   pub sound : SoundPlan (plan-of bytes)
-
--- what the field widths bound
-pub record WithinBounds (plan : Plan) : Type 0 where
-  pub tasks-most : tasks (plan .graph) ≤ most-tasks
-  pub quantum-most : plan .terms .quantum-length ≤ longest-quantum
-  pub responsiveness-most : plan .terms .responsiveness ≤ 7
-  pub durations-most : (t : ℕ) → duration-of plan t ≤ longest-duration
 
 -- a path of successors from one task to another
 pub data Leads (graph : Graph) (start : ℕ) : ℕ → Type 0 where

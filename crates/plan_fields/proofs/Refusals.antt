@@ -53,6 +53,10 @@ module _ (form : ℕ) where
 -- ---- questions 2 to 6
 
 module _ (form r d q n size : ℕ) where
+  -- so many bytes has a plan of the form with n tasks
+  abbrev whole : ℕ
+  whole = 5 + form-with form forms .task-bytes * n
+
   pub no-2 : is-form form forms ≡ false → refused 2 ≡ first-no (field-questions form r d q n size)
   unfolding field-questions first-no
   no-2 a = rw a
@@ -73,13 +77,15 @@ module _ (form r d q n size : ℕ) where
   unfolding field-questions first-no
   no-5 a b c e f = rw (a, le-leb 2 r b, le-leb 1 d c, le-leb d 100 e, lt-leb 1 q f)
 
-  pub no-6 : is-form form forms ≡ true → 2 ≤ r → 1 ≤ d → d ≤ 100 → 1 ≤ q → (size ≡ 5 + form-with form forms .task-bytes * n → ⊥) → refused 6 ≡ first-no (field-questions form r d q n size)
+  pub no-6 : is-form form forms ≡ true → 2 ≤ r → 1 ≤ d → d ≤ 100 → 1 ≤ q → (size ≡ whole → ⊥) →
+      refused 6 ≡ first-no (field-questions form r d q n size)
   unfolding field-questions first-no
-  no-6 a b c e f g = rw (a, le-leb 2 r b, le-leb 1 d c, le-leb d 100 e, le-leb 1 q f, ne-eqb size (5 + form-with form forms .task-bytes * n) g)
+  no-6 a b c e f g = rw (a, le-leb 2 r b, le-leb 1 d c, le-leb d 100 e, le-leb 1 q f, ne-eqb size whole g)
 
-  pub yes-to-6 : is-form form forms ≡ true → 2 ≤ r → 1 ≤ d → d ≤ 100 → 1 ≤ q → size ≡ 5 + form-with form forms .task-bytes * n → accepted ≡ first-no (field-questions form r d q n size)
+  pub yes-to-6 : is-form form forms ≡ true → 2 ≤ r → 1 ≤ d → d ≤ 100 → 1 ≤ q → size ≡ whole →
+      accepted ≡ first-no (field-questions form r d q n size)
   unfolding field-questions first-no
-  yes-to-6 a b c e f g = rw (a, le-leb 2 r b, le-leb 1 d c, le-leb d 100 e, le-leb 1 q f, eq-eqb size (5 + form-with form forms .task-bytes * n) g)
+  yes-to-6 a b c e f g = rw (a, le-leb 2 r b, le-leb 1 d c, le-leb d 100 e, le-leb 1 q f, eq-eqb size whole g)
 
 -- ---- questions 7 and 8
 

@@ -1,6 +1,6 @@
--- A work cycle: the front task has one tick less. If that was its last, its successors are counted down and those that became ready are pushed;
--- the parts then show the model's step, and the numbers of predecessors are right again. So first of the parts, then of the memory that the
--- code reads and writes.
+-- A work cycle: the front task has one tick less. If that was its last, its successors are counted down and those that became ready are
+-- pushed; the parts then show the model's step, and the numbers of predecessors are right again. So first of the parts, then of the memory
+-- that the code reads and writes.
 use mathlib.Core.Path.{_≡_, refl, sym, ap, _∙_}
 use mathlib.Core.Bool.{Bool, true, false}
 use mathlib.Core.List.{List, [], _∷_, _++_, tail, List·Memᴰ}

@@ -68,6 +68,6 @@ returns-4 c =
 pub read-graph-spec : {M : Type 1} → statement M
 read-graph-spec =
     tie.close
-    (tie.spec (λ c κs. search needs) read-tasks-requires (λ c κs. search needs) (λ c κs. search needs) returns (λ c κs. search needs) (λ c κs. search needs)
-    (λ c κs. search needs) returns-2 (λ c κs. search needs) returns-3 (λ c. search needs) (λ c. search needs) (λ c. search needs)
-    (λ c. search needs) (λ c. search needs) returns-4)
+    (tie.spec (λ c κs. search needs) read-tasks-requires (λ c κs. search needs) (λ c κs. search needs) returns (λ c κs. search needs)
+    (λ c κs. search needs) (λ c κs. search needs) returns-2 (λ c κs. search needs) returns-3 (λ c. search needs) (λ c. search needs)
+    (λ c. search needs) (λ c. search needs) (λ c. search needs) returns-4)

@@ -96,5 +96,6 @@ returns-2 c =
 pub settle-spec : {M : Type 1} → statement M
 settle-spec =
     tie.close
-    (tie.spec (λ c. search needs) (λ c. search needs) (λ c. search needs) (λ c. search needs) (λ c κs. search needs) add-words-2 (λ c. search needs) add-to-requires (λ c κs. search needs) add-to-requires-2 (λ c κs. search needs) returns
-    add-to-requires-3 (λ c. search needs) add-words-3 (λ c. search needs) (λ c. search needs) sub-words (λ c. search needs) returns-2)
+    (tie.spec (λ c. search needs) (λ c. search needs) (λ c. search needs) (λ c. search needs) (λ c κs. search needs) add-words-2
+    (λ c. search needs) add-to-requires (λ c κs. search needs) add-to-requires-2 (λ c κs. search needs) returns add-to-requires-3
+    (λ c. search needs) add-words-3 (λ c. search needs) (λ c. search needs) sub-words (λ c. search needs) returns-2)

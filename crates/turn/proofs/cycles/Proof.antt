@@ -65,7 +65,7 @@ add-work-requires c κs =
     let l = at .loop-test .taken in
     let turn = work-turn tick (head .loop .inv) l (omega (arith, own-size at, c .before .before .if1 .taken)) in (
       growing (addable tick (head .loop .inv) (head .loop .w) (omega arith) (omega (arith, l, few-choices tick))),
-      c .work-cycle .ensures _ turn .one-at-most,
+      omega (arith, c .work-cycle .ensures _ turn .one-at-most),
     )
 
 shared-slice-read-choice : tie.Need-shared-slice-read-choice Inv-loop μ-loop

@@ -55,7 +55,9 @@ complete-requires c κs =
     (_, (_, last-ticked _ (entry (c .before .before .before) .pre .1) (c .before .before .before .wide .ensures) (c .before .if1 .left)))
 
 returns-2 : tie.Need-returns-2
-returns-2 c = λ m turn. c .complete .ensures _ m (last-ticked _ turn (c .before .before .before .before .wide .ensures) (c .before .before .if1 .left))
+returns-2 c = λ m turn.
+    let at = c .before .before in
+    c .complete .ensures _ m (last-ticked _ turn (at .before .before .wide .ensures) (at .if1 .left))
 
 pub work-cycle-spec : {M : Type 1} → statement M
 work-cycle-spec =
