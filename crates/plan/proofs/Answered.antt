@@ -9,7 +9,7 @@ use lib.ListN.{length, getD, set, drop}
 use Rattle.model.specs.Tests.{below, every}
 use Rattle.model.specs.Questions.{Answer, accepted, ask, first-no}
 use Rattle.model.specs.Plan.{header, task-count, task-questions, header-questions, graph-questions, all-preceded, one-exit, plan-of}
-use Rattle.model.specs.Plan.{plan-answer, forms, form-with, form-of}
+use Rattle.model.specs.Plan.{plan-answer, form-of}
 use Rattle.memory.specs.Parts.{Parts, parts}
 use Rattle.memory.proofs.Regions.{store-pending}
 use Rattle.plan_fields.specs.declared.PlanAnswer.{PlanAnswer}
@@ -119,10 +119,6 @@ module _ (bytes : List ℕ) (h : Header) (long-enough : 5 ≤ length bytes)
 module _ (bytes : List ℕ) (h : Header) (read : HeaderRead bytes h) where
   pub tasks-number : h .tasks ≡ task-count bytes
   tasks-number = read .fields .tasks-read
-
-  pub its-width : {width : ℕ} → width ≡ form-with (h .form) forms .task-bytes → width ≡ form-of bytes .task-bytes
-  unfolding form-of
-  its-width e = rw (e, read .fields .form-read)
 
   pub first-due : (memory : List ℕ) → memory ≡ no-memory → Due bytes (h .tasks) 0 (parts memory)
   first-due memory zeros =

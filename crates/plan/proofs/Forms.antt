@@ -31,6 +31,22 @@ known-form bytes h = by (eqb (form-field bytes) 1) refl (eqb (form-field bytes) 
     by false e true f h = is-2 (rw (eqb-true (form-field bytes) 2 f))
     by false e false f h = absurd (true-is-not-false h refl)
 
+-- the bytes of a task, by the number of the form
+module _ (bytes : List ℕ) {form : ℕ} (given : form ≡ form-field bytes) where
+  pub four-in-2 : form ≡ 2 → 4 ≡ form-of bytes .task-bytes
+  unfolding form-of form-with forms
+  four-in-2 two = rw (sym given ∙ two)
+
+  pub three-in-1 : is-form (form-field bytes) forms ≡ true → (form ≡ 2 → ⊥) → 3 ≡ form-of bytes .task-bytes
+  unfolding form-of form-with forms is-form
+  three-in-1 known other = by (eqb (form-field bytes) 1) refl (eqb (form-field bytes) 2) refl known
+    where
+      by : (a : Bool) → eqb (form-field bytes) 1 ≡ a → (b : Bool) → eqb (form-field bytes) 2 ≡ b → cond a true (cond b true false) ≡ true →
+          3 ≡ cond a form-1 (cond b form-2 (record { code = 0; task-bytes = 0; duration-bits = 0 })) .task-bytes
+      by true e b f h = refl
+      by false e true f h = absurd (other (given ∙ eqb-true (form-field bytes) 2 f))
+      by false e false f h = absurd (true-is-not-false h refl)
+
 -- ---- the bytes of a task
 
 module _ (bytes : List ℕ) (t : ℕ) where

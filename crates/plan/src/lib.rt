@@ -8,7 +8,7 @@ ghost use Prim.Native.Nat.{_+_, _-_, _^_, _≤_, _<_};
 ghost use lib.ListN.{getD, drop};
 ghost use Rattle.model.specs.Tests.{below, every};
 ghost use Rattle.memory.specs.Parts.{parts, parts-before, parts-after, with-pending};
-ghost use Rattle.model.specs.Plan.{form-of, task-bits};
+ghost use Rattle.model.specs.Plan.{form-field, form-of, task-bits};
 ghost use Rattle.plan_fields.specs.Fields.{TaskOf};
 ghost use Rattle.plan.specs.Contracts.{noted, FieldsDue, Due, TaskRead, TasksRead, one-or-two, followed, HeaderRead, HeadingRead};
 ghost use Rattle.plan.specs.Contracts.{no-memory};
@@ -81,6 +81,17 @@ fn read_tasks(bytes: &[u8], n: usize, width: usize, memory: &mut Memory) -> Plan
     PlanAnswer::Accepted
 }
 
+// Reads all n tasks of a plan of this form. The loop is told the bytes of a task, so that each form has one of its own.
+fn read_form(bytes: &[u8], form: usize, n: usize, memory: &mut Memory) -> PlanAnswer
+    requires { ⌜ form ≡ form-field (now bytes) ⌝ ∗ ⌜ Due (now bytes) n 0 (parts (now memory)) ⌝ }
+    ensures { λ r. ⌜ TasksRead (now (bytes .entry)) n r (parts-after memory) ⌝ }
+{
+    if form == 2 {
+        return read_tasks(bytes, n, 4, memory);
+    }
+    read_tasks(bytes, n, 3, memory)
+}
+
 // Question 9 over the counts: each of the tasks from 1 up has one or two predecessors.
 fn all_preceded(n: usize, memory: &Memory) -> bool
     requires { ⌜ (1 ≤ n) × (n ≤ 1024) ⌝ }
@@ -129,8 +140,7 @@ fn read_graph(bytes: &[u8], h: Header, memory: &mut Memory) -> Heading
     ensures { λ r. ⌜ HeadingRead (now (bytes .entry)) r (now (memory .exit)) ⌝ }
 {
     let n = h.tasks;
-    let width = plan_fields::task_bytes(h.form);
-    let answer = read_tasks(bytes, n, width, memory);
+    let answer = read_form(bytes, h.form, n, memory);
     if !plan_fields::passed(answer) {
         return refusal(answer);
     }

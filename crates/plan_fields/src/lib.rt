@@ -94,7 +94,7 @@ fn known_form(form: usize) -> bool
 }
 
 // The bytes of a task of this plan form; 0 where there is none of the number.
-pub fn task_bytes(form: usize) -> usize
+fn task_bytes(form: usize) -> usize
     ensures { λ r. ⌜ r ≡ form-with form forms .task-bytes ⌝ }
 {
     if form == 1 {

@@ -402,12 +402,19 @@ module _ (memory : List ℕ) {m : Numbers} {w : ℕ} (turn : WorkTurn (parts mem
       let more : 2 ≤ left-at (parts memory .spans) (front-task (parts memory) w) = omega (arith, rw here at left-read, rw here at ne) in
       rw (tick-stored, here) (goes-on turn more)
 
-  pub last-ticked : its-span % span ≡ 1 → LastTick (parts memory) m w task (parts stored)
-  last-ticked one = record { turn = turn; in-front = here; last = sym left-read ∙ one; ticked = tick-stored }
+  pub last-ticked : its-span % span ≡ 1 → LastTick (parts memory) m w task (getD memory (4096 + size-at w) 0) (parts stored)
+  last-ticked one =
+      record {
+        turn = turn;
+        in-front = here;
+        its-size = ends-part-at memory (size-at w) (omega (arith, place turn));
+        last = sym left-read ∙ one;
+        ticked = tick-stored;
+      }
 
 -- ---- in a memory, the completion
 
-module _ (memory : List ℕ) {p : Parts} {m : Numbers} {w task : ℕ} (ended : LastTick p m w task (parts memory)) where
+module _ (memory : List ℕ) {p : Parts} {m : Numbers} {w task size : ℕ} (ended : LastTick p m w task size (parts memory)) where
   turn : WorkTurn p m w
   turn = ended .turn
 
@@ -420,11 +427,8 @@ module _ (memory : List ℕ) {p : Parts} {m : Numbers} {w task : ℕ} (ended : L
   pub task-here : task < 1024
   task-here = rw (ended .in-front) (front-inside turn)
 
-  size : getD memory (4096 + size-at w) 0 ≡ getD (p .ends) (size-at w) 0
-  size = ends-part-at memory (size-at w) (omega (arith, place turn)) ∙ rw ends-same
-
-  pub own-filled : 1 ≤ getD memory (4096 + size-at w) 0
-  own-filled = rw size (turn .filled)
+  pub own-filled : 1 ≤ size
+  own-filled = rw (ended .its-size) (turn .filled)
 
   -- the fields that the task shows, and the deque behind the front
   abbrev first-field : ℕ
@@ -434,7 +438,7 @@ module _ (memory : List ℕ) {p : Parts} {m : Numbers} {w task : ℕ} (ended : L
   second-field = getD memory (1024 + task) 0
 
   abbrev others : Deque
-  others = record { front = getD memory (2048 + task) 0; size = getD memory (4096 + size-at w) 0 - 1 }
+  others = record { front = getD memory (2048 + task) 0; size = size - 1 }
 
   one-read : first-field ≡ getD (p .first) task 0
   one-read = first-at memory task task-here ∙ ap (λ (q : Parts). getD (q .first) task 0) (ended .ticked)
@@ -446,14 +450,14 @@ module _ (memory : List ℕ) {p : Parts} {m : Numbers} {w task : ℕ} (ended : L
   rest-read = next-at memory task task-here ∙ ap (λ (q : Parts). getD (q .next) task 0) (ended .ticked)
 
   pub all-releasable : AllReleasable (parts memory) first-field second-field others
-  all-releasable = rw (one-read, two-read, rest-read, ended .ticked, size, ended .in-front) (releasable turn)
+  all-releasable = rw (one-read, two-read, rest-read, ended .ticked, ended .its-size, ended .in-front) (releasable turn)
 
   pub done : {p′ p″ : Parts} {after : Deque} → AllReleased (parts memory) first-field second-field others p′ after →
       p″ ≡ put-part p′ w after → Worked p m w p″ 1
   done r put =
       rw put
       (work-done turn (rw (← ended .in-front) (ended .last))
-      (rw (one-read, two-read, rest-read, ended .ticked, size, ended .in-front) at r))
+      (rw (one-read, two-read, rest-read, ended .ticked, ended .its-size, ended .in-front) at r))
 
   -- the deque without its front
   abbrev behind-front : List ℕ → List ℕ
@@ -480,5 +484,5 @@ module _ (memory : List ℕ) {p : Parts} {m : Numbers} {w task : ℕ} (ended : L
     done-now last =
         let r = one-now memory all-releasable alone nz same last in
         let kept : getD (parts (set lessened (2048 + at) (others .front)) .ends) (size-at w) 0 ≡ others .size + 1 =
-        rw (r .rest .same-ends, ends-same, ← size) (omega (arith, own-filled)) in
+        rw (r .rest .same-ends, ends-same, ← ended .its-size) (omega (arith, own-filled)) in
         done r (front-stored (set lessened (2048 + at) (others .front)) w first-field (others .size + 1) (place turn) kept)

@@ -36,9 +36,10 @@ pub record Worked (p : Parts) (m : Numbers) (w : ℕ) (p′ : Parts) (completed 
 abbrev pub one-tick-off : Parts → ℕ → Parts
 one-tick-off p task = with-spans p (set (p .spans) task (getD (p .spans) task 0 - 1))
 
--- the parts q have one tick less of the front task than p, where it was its last one
-pub record LastTick (p : Parts) (m : Numbers) (w task : ℕ) (q : Parts) : Type 0 where
+-- the parts q have one tick less of the front task than p, where it was its last one; its deque has so many tasks
+pub record LastTick (p : Parts) (m : Numbers) (w task size : ℕ) (q : Parts) : Type 0 where
   pub turn : WorkTurn p m w
   pub in-front : task ≡ front-task p w
+  pub its-size : size ≡ getD (p .ends) (size-at w) 0
   pub last : left-at (p .spans) task ≡ 1
   pub ticked : q ≡ one-tick-off p task

@@ -5,16 +5,15 @@ ghost use Rattle.memory.specs.Parts.{Parts, parts, parts-before, parts-after};
 ghost use Rattle.memory.specs.Words.{Numbers};
 ghost use Rattle.work.specs.Works.{WorkTurn, LastTick, Worked};
 
-// The front task of the worker's deque had its last tick: it leaves, and its successors that became ready take its place. A task with one
-// successor comes first: where that one became ready, it is the new front and the size stays.
-fn complete(memory: &mut Memory, w: usize, task: usize)
-    requires { ⌜ ((p : Parts) × ((m : Numbers) × LastTick p m w task (parts (now memory)))) ⌝ }
-    ensures { λ _. ⌜ ((p : Parts) (m : Numbers) → LastTick p m w task (parts-before memory) →
+// The front task of the worker's deque, one of so many there, had its last tick: it leaves, and its successors that became ready take its
+// place. A task with one successor comes first: where that one became ready, it is the new front and the size stays.
+fn complete(memory: &mut Memory, w: usize, task: usize, size: u16)
+    requires { ⌜ ((p : Parts) × ((m : Numbers) × LastTick p m w task size (parts (now memory)))) ⌝ }
+    ensures { λ _. ⌜ ((p : Parts) (m : Numbers) → LastTick p m w task size (parts-before memory) →
         Worked p m w (parts-after memory) 1) ⌝ }
 {
     let front_at = memory::ENDS + 2 * w;
     let size_at = memory::ENDS + (2 * w + 1);
-    let size = memory[size_at];
     let next_at = memory::NEXT + task;
     let rest = memory[next_at];
     let one = memory[task];
@@ -60,7 +59,9 @@ pub fn work_cycle(memory: &mut Memory, w: usize) -> u64
         Worked (parts-before memory) m w (parts-after memory) completed) ⌝ }
 {
     let front_at = memory::ENDS + 2 * w;
+    let size_at = memory::ENDS + (2 * w + 1);
     let front = memory[front_at];
+    let size = memory[size_at];
     let task = deque::wide(front);
     let span_at = memory::SPANS + task;
     let span = memory[span_at];
@@ -68,6 +69,6 @@ pub fn work_cycle(memory: &mut Memory, w: usize) -> u64
     if span % memory::SPAN != 1 {
         return 0;
     }
-    complete(memory, w, task);
+    complete(memory, w, task, size);
     1
 }

@@ -4,29 +4,25 @@ use borrow.Author.Tests.{not-true, not-false}
 use mathlib.Core.Path.{_≡_, refl, sym, _∙_}
 use mathlib.Core.Bool.{true}
 use Rattle.plan_fields.specs.Answers.{answer-of, passes}
-use Rattle.plan.proofs.Answered.{right-refusal, its-width, first-due, tasks-refused, refused-9, refused-10, accepted-whole}
+use Rattle.plan.proofs.Answered.{right-refusal, first-due, tasks-refused, refused-9, refused-10, accepted-whole}
 use Rattle.plan.proofs.read_graph.Statement.{statement}
 use Rattle.plan.proofs.read_graph.Tie as tie
 
 -- the function's entry, and what the tests of the answer, of 9 and of 10 say
 abbrev start : tie.After-passed → tie.Start
-start p = p .before .before .before .before .before
+start p = p .before .before .before .before
 
-holds-8 : (c : tie.Else1) → passes (answer-of (c .before .before .read-tasks .result)) ≡ true
+holds-8 : (c : tie.Else1) → passes (answer-of (c .before .before .read-form .result)) ≡ true
 holds-8 c = sym (c .before .passed .ensures) ∙ not-false _ (c .if1 .left)
 
-read-tasks-requires : tie.Need-read-tasks-requires
-read-tasks-requires c κs =
-    let s = c .before .before .before in (
-      its-width _ _ (s .pre .0) (c .before .task-bytes .ensures),
-      first-due _ _ (s .pre .0) _ (s .pre .1),
-    )
+read-form-requires : tie.Need-read-form-requires
+read-form-requires c κs = let s = c .before .before in (s .pre .0 .fields .form-read, first-due _ _ (s .pre .0) _ (s .pre .1))
 
 returns : tie.Need-returns
 returns c =
     let p = c .before .before in
     let fails = sym (p .passed .ensures) ∙ not-true _ (c .before .if1 .taken) in
-    right-refusal _ _ _ _ (tasks-refused _ _ (start p .pre .0) _ _ (p .before .read-tasks .ensures) fails) fails (c .refusal .ensures)
+    right-refusal _ _ _ _ (tasks-refused _ _ (start p .pre .0) _ _ (p .before .read-form .ensures) fails) fails (c .refusal .ensures)
 
 returns-2 : tie.Need-returns-2
 returns-2 c =
@@ -35,7 +31,7 @@ returns-2 c =
     let e = a .before .before in
     let p = e .before in
     right-refusal _ _ _ _
-    (refused-9 _ _ (start p .pre .0) _ _ (p .before .read-tasks .ensures) (holds-8 e)
+    (refused-9 _ _ (start p .pre .0) _ _ (p .before .read-form .ensures) (holds-8 e)
     (sym (a .all-preceded .ensures) ∙ not-true _ (c .before .if2 .taken)))
     refl (c .refusal2 .ensures)
 
@@ -47,7 +43,7 @@ returns-3 c =
     let e = a .before .before in
     let p = e .before in
     right-refusal _ _ _ _
-    (refused-10 _ _ (start p .pre .0) _ _ (p .before .read-tasks .ensures) (holds-8 e)
+    (refused-10 _ _ (start p .pre .0) _ _ (p .before .read-form .ensures) (holds-8 e)
     (sym (a .all-preceded .ensures) ∙ not-false _ (n .if2 .left))
     (sym (o .one-exit .ensures) ∙ not-true _ (c .before .if3 .taken)))
     refl (c .refusal3 .ensures)
@@ -60,7 +56,7 @@ returns-4 c =
     let a = o .before .before in
     let e = a .before .before in
     let p = e .before in
-    accepted-whole _ _ (start p .pre .0) _ _ (p .before .read-tasks .ensures) (holds-8 e)
+    accepted-whole _ _ (start p .pre .0) _ _ (p .before .read-form .ensures) (holds-8 e)
     (sym (a .all-preceded .ensures) ∙ not-false _ (n .if2 .left))
     (sym (o .one-exit .ensures) ∙ not-false _ (t .if3 .left))
     _ refl refl refl refl refl
@@ -68,6 +64,6 @@ returns-4 c =
 pub read-graph-spec : {M : Type 1} → statement M
 read-graph-spec =
     tie.close
-    (tie.spec (λ c κs. search needs) read-tasks-requires (λ c κs. search needs) (λ c κs. search needs) returns (λ c κs. search needs)
+    (tie.spec read-form-requires (λ c κs. search needs) (λ c κs. search needs) returns (λ c κs. search needs)
     (λ c κs. search needs) (λ c κs. search needs) returns-2 (λ c κs. search needs) returns-3 (λ c. search needs) (λ c. search needs)
     (λ c. search needs) (λ c. search needs) (λ c. search needs) returns-4)

@@ -11,7 +11,7 @@ use Rattle.work.proofs.complete.Tie as tie
 -- ---- the places: the entry, where the task's fields are known, and the first of these alone
 
 abbrev entry : tie.After-two → tie.Start
-entry c = c .before .before .before .before
+entry c = c .before .before .before
 
 abbrev fields : tie.After-wide → tie.After-two
 fields c = c .before .before .before
@@ -41,35 +41,29 @@ add-size-at c = omega (arith, place c)
 add-size-at-2 : tie.Need-add-size-at-2
 add-size-at-2 c = omega (arith, place c)
 
-mul-size : tie.Need-mul-size
-mul-size c = omega (arith, place c)
-
-element-copy-out-size : tie.Need-element-copy-out-size
-element-copy-out-size c = omega (arith, place c)
-
 add-next-at : tie.Need-add-next-at
-add-next-at c = omega (arith, inside (c .before))
+add-next-at c = omega (arith, inside c)
 
 mul-rest : tie.Need-mul-rest
-mul-rest c = omega (arith, inside (c .before))
+mul-rest c = omega (arith, inside c)
 
 element-copy-out-rest : tie.Need-element-copy-out-rest
-element-copy-out-rest c = omega (arith, inside (c .before))
+element-copy-out-rest c = omega (arith, inside c)
 
 mul-one : tie.Need-mul-one
-mul-one c = omega (arith, inside (c .before .before))
+mul-one c = omega (arith, inside (c .before))
 
 element-copy-out-one : tie.Need-element-copy-out-one
-element-copy-out-one c = omega (arith, inside (c .before .before))
+element-copy-out-one c = omega (arith, inside (c .before))
 
 add-second-at : tie.Need-add-second-at
-add-second-at c = omega (arith, inside (c .before .before .before))
+add-second-at c = omega (arith, inside (c .before .before))
 
 mul-two : tie.Need-mul-two
-mul-two c = omega (arith, inside (c .before .before .before))
+mul-two c = omega (arith, inside (c .before .before))
 
 element-copy-out-two : tie.Need-element-copy-out-two
-element-copy-out-two c = omega (arith, inside (c .before .before .before))
+element-copy-out-two c = omega (arith, inside (c .before .before))
 
 mul-memory : tie.Need-mul-memory
 mul-memory c = omega (arith, place (entry (c .before .before)))
@@ -165,7 +159,7 @@ returns-4 c = λ p m ended. done _ ended (c .before .before .release-successors 
 pub complete-spec : {M : Type 1} → statement M
 complete-spec =
     tie.close
-    (tie.spec mul-front-at add-front-at mul-size-at add-size-at add-size-at-2 mul-size element-copy-out-size add-next-at mul-rest
+    (tie.spec mul-front-at add-front-at mul-size-at add-size-at add-size-at-2 add-next-at mul-rest
     element-copy-out-rest mul-one element-copy-out-one add-second-at mul-two element-copy-out-two mul-memory element-write-memory sub-memory
     mul-memory-2 element-write-memory-2 returns (λ c κs. search needs) add-awaits-at mul-awaited element-copy-out-awaited sub-memory-2
     mul-memory-3 element-write-memory-3 add-link-at mul-memory-4 element-write-memory-4 mul-memory-5 element-write-memory-5 returns-2

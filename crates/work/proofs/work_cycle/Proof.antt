@@ -9,7 +9,7 @@ use Rattle.work.proofs.work_cycle.Tie as tie
 -- ---- the places: the entry, and where the front task is known
 
 abbrev entry : tie.After-wide → tie.Start
-entry c = c .before .before
+entry c = c .before .before .before
 
 place : (c : tie.Start) → c .args .w < 64
 place c = worker-place (c .pre .1)
@@ -28,6 +28,21 @@ mul-front c = omega (arith, place c)
 
 element-copy-out-front : tie.Need-element-copy-out-front
 element-copy-out-front c = omega (arith, place c)
+
+mul-size-at : tie.Need-mul-size-at
+mul-size-at c = omega (arith, place c)
+
+add-size-at : tie.Need-add-size-at
+add-size-at c = omega (arith, place c)
+
+add-size-at-2 : tie.Need-add-size-at-2
+add-size-at-2 c = omega (arith, place c)
+
+mul-size : tie.Need-mul-size
+mul-size c = omega (arith, place (c .before))
+
+element-copy-out-size : tie.Need-element-copy-out-size
+element-copy-out-size c = omega (arith, place (c .before))
 
 add-span-at : tie.Need-add-span-at
 add-span-at c = omega (arith, inside c)
@@ -62,5 +77,6 @@ returns-2 c = λ m turn.
 pub work-cycle-spec : {M : Type 1} → statement M
 work-cycle-spec =
     tie.close
-    (tie.spec mul-front-at add-front-at mul-front element-copy-out-front (λ c κs. search needs) add-span-at mul-span element-copy-out-span
+    (tie.spec mul-front-at add-front-at mul-size-at add-size-at add-size-at-2 mul-front element-copy-out-front mul-size
+    element-copy-out-size (λ c κs. search needs) add-span-at mul-span element-copy-out-span
     sub-memory mul-memory element-write-memory returns complete-requires returns-2)
