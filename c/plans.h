@@ -46,6 +46,24 @@ static void put_task(plan_bytes *plan, unsigned task, unsigned count, unsigned f
     put_bits(plan->bytes + 5 + 3 * (size_t)task, (uint64_t)count << 22 | (uint64_t)first << 11 | second, 3);
 }
 
+/* the same plan in form 2, in which each task lasts so many ticks */
+static void in_form_2(plan_bytes *plan, unsigned ticks)
+{
+    size_t n = (plan->size - 5) / 3, t;
+    for (t = n; t-- != 0;) {
+        memmove(plan->bytes + 5 + 4 * t, plan->bytes + 5 + 3 * t, 3);
+        plan->bytes[5 + 4 * t + 3] = (uint8_t)ticks;
+    }
+    plan->bytes[0] = (uint8_t)(plan->bytes[0] + 0x10);
+    plan->size = 5 + 4 * n;
+}
+
+/* the ticks of a task, in form 2 */
+static void put_ticks(plan_bytes *plan, unsigned task, unsigned ticks)
+{
+    plan->bytes[5 + 4 * (size_t)task + 3] = (uint8_t)ticks;
+}
+
 /* a tree that forks to so many leaves and joins them again: 3 * leaves - 2 tasks */
 static void fork_join(plan_bytes *plan, unsigned r, unsigned d, unsigned l, unsigned leaves)
 {
@@ -114,6 +132,20 @@ static void random_graph(plan_bytes *plan, unsigned n, uint64_t *seed)
     }
 }
 
+/* the same plan in form 2, with tasks of up to so many ticks; how many ticks it has in all */
+static unsigned random_ticks(plan_bytes *plan, unsigned most, uint64_t *seed)
+{
+    unsigned n = (unsigned)(plan->size - 5) / 3, t, ticks, sum = 0;
+    in_form_2(plan, 1);
+    for (t = 0; t < n; t++) {
+        ticks = 1 + below(seed, most);
+        put_ticks(plan, t, ticks);
+        sum += ticks;
+    }
+    return sum;
+}
+
+/* a plan of form 1 or 2 */
 static void random_plan(plan_bytes *plan, uint64_t *seed)
 {
     static const unsigned sizes[] = {1, 2, 5, 30, 200, 1024};
@@ -121,6 +153,7 @@ static void random_plan(plan_bytes *plan, uint64_t *seed)
     unsigned r = 2 + below(seed, 6), d = 1 + below(seed, 100), l = below(seed, 4) == 0 ? 1 + below(seed, 65535) : 1 + below(seed, 6);
     put_header(plan, 1, r, d, l, n);
     random_graph(plan, n, seed);
+    if (below(seed, 2) == 0) random_ticks(plan, below(seed, 3) == 0 ? JIRVALDO_TICKS_MAX : 4, seed);
 }
 
 /* changes one to three bytes or the length of a plan */

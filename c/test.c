@@ -40,13 +40,15 @@ static void check_shown(const jirvaldo_job *job, uint64_t refused_calls)
     CHECK(n.refused_calls == refused_calls);
 }
 
-/* what is proved of every job, looked at from outside: R, D and L are the plan's */
-static void check_limits(const jirvaldo_job *job, unsigned r, unsigned d, unsigned l)
+/* what is proved of every job, looked at from outside: R, D and L are the plan's, and its tasks have so many ticks in all */
+static void check_limits(const jirvaldo_job *job, unsigned r, unsigned d, unsigned l, unsigned ticks)
 {
     jirvaldo_numbers n = jirvaldo_counters(job, 0);
     CHECK(n.mug * l * d <= (uint64_t)100 * (1 + r) * (n.work + n.mug));
-    CHECK(n.work == n.worked && n.worked <= n.tasks);
+    CHECK(n.worked <= n.work && n.worked <= n.tasks && n.work <= ticks);
+    CHECK(ticks != n.tasks || n.work == n.worked);
     CHECK((n.worked == n.tasks) == (n.status == JIRVALDO_STATUS_FINISHED));
+    CHECK((n.work == ticks) == (n.status == JIRVALDO_STATUS_FINISHED));
     CHECK(n.successes <= n.steal && n.desire >= 1 && n.desire <= JIRVALDO_WORKERS_MAX && n.allotment <= JIRVALDO_WORKERS_MAX);
 }
 
@@ -111,7 +113,8 @@ static void check_plan_with(void (*change)(plan_bytes *), unsigned expected)
 static void no_bytes(plan_bytes *p) { p->size = 0; }
 static void four_bytes(plan_bytes *p) { p->size = 4; }
 static void form_0(plan_bytes *p) { put_header(p, 0, 2, 80, 2, 4); }
-static void form_2(plan_bytes *p) { put_header(p, 2, 2, 80, 2, 4); }
+static void form_3(plan_bytes *p) { put_header(p, 3, 2, 80, 2, 4); }
+static void form_15(plan_bytes *p) { put_header(p, 15, 2, 80, 2, 4); }
 static void r_0(plan_bytes *p) { put_header(p, 1, 0, 80, 2, 4); }
 static void r_1(plan_bytes *p) { put_header(p, 1, 1, 80, 2, 4); }
 static void r_7(plan_bytes *p) { chain(p, 7, 80, 2, 4); }
@@ -142,15 +145,53 @@ static void as_it_is(plan_bytes *p) { (void)p; }
 static void test_plans(void)
 {
     static void (*const changes[])(plan_bytes *) = {as_it_is, one_task, r_7, d_100, l_65535, most_tasks, no_bytes, four_bytes, form_0,
-        form_2, r_0, r_1, d_0, d_101, l_0, cut, longer, header_alone, most_and_a_byte, count_3, unused_first, unused_second, itself,
-        past_the_last, twice, field_2047, no_predecessor, three_predecessors, loose_end};
-    static const unsigned expected[] = {0, 0, 0, 0, 0, 0, 1, 1, 2, 2, 3, 3, 4, 4, 5, 6, 6, 6, 6, 7, 7, 7, 8, 8, 8, 8, 9, 9, 10};
+        form_3, form_15, r_0, r_1, d_0, d_101, l_0, cut, longer, header_alone, most_and_a_byte, count_3, unused_first, unused_second,
+        itself, past_the_last, twice, field_2047, no_predecessor, three_predecessors, loose_end};
+    static const unsigned expected[] = {0, 0, 0, 0, 0, 0, 1, 1, 2, 2, 2, 3, 3, 4, 4, 5, 6, 6, 6, 6, 7, 7, 7, 8, 8, 8, 8, 9, 9, 10};
     jirvaldo_job *job = job_block();
     size_t i;
     CHECK(sizeof changes / sizeof changes[0] == sizeof expected / sizeof expected[0]);
     for (i = 0; i < sizeof expected / sizeof expected[0]; i++) check_plan_with(changes[i], expected[i]);
     CHECK(jirvaldo_accept(job, NULL, 0) == JIRVALDO_PLAN_SHORT);
     release_job(job);
+}
+
+static void form_2(plan_bytes *p) { in_form_2(p, 1); }
+static void ticks_255(plan_bytes *p) { in_form_2(p, JIRVALDO_TICKS_MAX); }
+static void one_long_task(plan_bytes *p) { one_task(p); in_form_2(p, 3); }
+static void most_ticks(plan_bytes *p) { most_tasks(p); in_form_2(p, JIRVALDO_TICKS_MAX); CHECK(p->size == JIRVALDO_PLAN_MAX); }
+static void most_ticks_cut(plan_bytes *p) { most_ticks(p); p->size -= 1; }
+static void most_ticks_and_a_byte(plan_bytes *p) { most_ticks(p); p->bytes[p->size++] = 1; }
+static void form_2_cut(plan_bytes *p) { form_2(p); p->size -= 1; }
+static void form_2_longer(plan_bytes *p) { form_2(p); p->bytes[p->size++] = 1; }
+static void form_2_in_17_bytes(plan_bytes *p) { p->bytes[0] = 0x25; }
+static void form_1_in_21_bytes(plan_bytes *p) { form_2(p); p->bytes[0] = 0x15; }
+static void form_2_r_1(plan_bytes *p) { r_1(p); in_form_2(p, 0); }
+static void form_2_count_3(plan_bytes *p) { count_3(p); in_form_2(p, 0); }
+static void form_2_unused(plan_bytes *p) { unused_second(p); in_form_2(p, 1); }
+static void form_2_twice(plan_bytes *p) { twice(p); in_form_2(p, 0); }
+static void no_ticks(plan_bytes *p) { in_form_2(p, 0); }
+static void no_ticks_cut(plan_bytes *p) { in_form_2(p, 0); p->size -= 1; }
+static void no_ticks_at_the_last(plan_bytes *p) { form_2(p); put_ticks(p, 3, 0); }
+static void no_ticks_before_8(plan_bytes *p) { itself(p); form_2(p); put_ticks(p, 0, 0); }
+static void no_ticks_at_8(plan_bytes *p) { itself(p); form_2(p); put_ticks(p, 1, 0); }
+static void no_ticks_after_8(plan_bytes *p) { itself(p); form_2(p); put_ticks(p, 2, 0); }
+static void no_ticks_and_9(plan_bytes *p) { no_predecessor(p); form_2(p); put_ticks(p, 3, 0); }
+static void no_ticks_and_10(plan_bytes *p) { loose_end(p); form_2(p); put_ticks(p, 3, 0); }
+static void form_2_9(plan_bytes *p) { no_predecessor(p); form_2(p); }
+static void form_2_10(plan_bytes *p) { loose_end(p); form_2(p); }
+
+/* 28 is asked of a task after 7 and 8, and before the next task */
+static void test_plans_of_form_2(void)
+{
+    static void (*const changes[])(plan_bytes *) = {form_2, ticks_255, one_long_task, most_ticks, form_2_r_1, most_ticks_cut,
+        most_ticks_and_a_byte, form_2_cut, form_2_longer, form_2_in_17_bytes, form_1_in_21_bytes, no_ticks_cut, form_2_count_3,
+        form_2_unused, form_2_twice, no_ticks_at_8, no_ticks_after_8, no_ticks, no_ticks_at_the_last, no_ticks_before_8, no_ticks_and_9,
+        no_ticks_and_10, form_2_9, form_2_10};
+    static const unsigned expected[] = {0, 0, 0, 0, 3, 6, 6, 6, 6, 6, 6, 6, 7, 7, 8, 8, 8, 28, 28, 28, 28, 28, 9, 10};
+    size_t i;
+    CHECK(sizeof changes / sizeof changes[0] == sizeof expected / sizeof expected[0]);
+    for (i = 0; i < sizeof expected / sizeof expected[0]; i++) check_plan_with(changes[i], expected[i]);
 }
 
 static void refuses_grant(jirvaldo_job *job, uint64_t workers, unsigned expected)
@@ -271,6 +312,82 @@ static void test_last_tick(void)
     CHECK(line_after(&plan, first, sizeof first - 1, "3 7 7 9 3 7 0 12 0 0"));
     CHECK(line_after(&plan, second, sizeof second - 1, "3 7 7 9 3 7 0 6 2 0"));
     CHECK(line_after(&plan, last, sizeof last - 1, "3 7 7 9 3 7 0 6 1 0"));
+}
+
+/* tasks that last: one alone; a diamond in which a thief finds a begun task alone and leaves it; a chain and a diamond whose begun tasks wait
+ * and are mugged, with the ticks that are done; and thirteen tasks, of which two begun ones stay where they are when thieves come */
+static void test_lasting_tasks(void)
+{
+    static const char alone[] = "\x01\x81\0\x81\0\x01\x81\0";
+    static const char thief[] = "\x01\x81\0\x02\x82\0\0\x02\x82\0\0\x02\x82\0\0\x01\x81\0\x01\x81\0\x02\x82\0\0";
+    static const char held[] = "\x01\x81\0\0\x80\x02\x82\0\0\x01\x81\0\x01\x81\0\x01\x81\0\x01\x81\0";
+    static const char other[] = "\x01\x81\0\x02\x82\0\0\x02\x82\0\0\0\x80\x01\x81\0\x01\x81\0\x02\x82\0\0\x02\x82\0\0"
+        "\x02\x82\x01\0\x02\x82\x01\0";
+    static const char thieves[] = "\x01\x81\0\x01\x81\0\x02\x82\0\0\x02\x82\0\0\x04\x84\0\0\0\x01";
+    static const unsigned ticks[2][4] = {{2, 3, 1, 2}, {1, 4, 4, 1}};
+    plan_bytes plan, diamonds[2];
+    unsigned i, t;
+    put_header(&plan, 1, 2, 80, 2, 1);
+    in_form_2(&plan, 3);
+    CHECK(line_after(&plan, alone, 5, "1 0 1 2 1 2 0 0 0 0"));
+    CHECK(line_after(&plan, alone, sizeof alone - 1, "3 1 1 2 1 3 0 0 0 0"));
+    for (i = 0; i < 2; i++) {
+        fork_join(&diamonds[i], 2, 1, 1, 2);
+        in_form_2(&diamonds[i], 1);
+        for (t = 0; t < 4; t++) put_ticks(&diamonds[i], t, ticks[i][t]);
+    }
+    CHECK(line_after(&diamonds[0], thief, 15, "1 2 4 4 2 5 0 2 1 0"));
+    CHECK(line_after(&diamonds[0], thief, 21, "1 3 4 4 1 7 0 2 1 0"));
+    CHECK(line_after(&diamonds[0], thief, sizeof thief - 1, "3 4 4 4 2 8 0 3 1 0"));
+    CHECK(line_after(&diamonds[1], other, sizeof other - 1, "3 4 4 4 2 10 2 3 1 0"));
+    chain(&plan, 2, 80, 1, 2);
+    in_form_2(&plan, 3);
+    put_ticks(&plan, 1, 2);
+    CHECK(line_after(&plan, held, 15, "1 1 2 2 1 3 1 1 0 0"));
+    CHECK(line_after(&plan, held, sizeof held - 1, "3 2 2 2 1 5 1 1 0 0"));
+    nested(&plan);
+    in_form_2(&plan, 1);
+    put_ticks(&plan, 5, 3);
+    put_ticks(&plan, 4, 2);
+    CHECK(line_after(&plan, thieves, sizeof thieves - 1, "1 4 13 8 4 7 0 3 2 0"));
+}
+
+/* a chain of the most tasks with the most ticks each, by one worker in four of the longest quanta; the last one has ticks to spare */
+static void test_most_work(void)
+{
+    enum { QUANTUM = 65535 };
+    static uint8_t log[1 + 2 * QUANTUM];
+    plan_bytes plan;
+    jirvaldo_job *job;
+    uint64_t refused = 99;
+    size_t i;
+    log[0] = 1;
+    for (i = 1; i < sizeof log; i += 2) log[i] = 0x81;
+    chain(&plan, 2, 80, QUANTUM, JIRVALDO_TASKS_MAX);
+    in_form_2(&plan, JIRVALDO_TICKS_MAX);
+    job = accepted(&plan);
+    for (i = 0; i < 3; i++) CHECK(jirvaldo_run_log(job, log, sizeof log, &refused) == 0 && refused == 0);
+    CHECK(line_is(job, 0, "1 771 1024 2 1 196605 0 0 0 0"));
+    CHECK(jirvaldo_run_log(job, log, sizeof log, &refused) == 0 && refused == 4 * QUANTUM - JIRVALDO_TASKS_MAX * JIRVALDO_TICKS_MAX);
+    CHECK(line_is(job, 0, "3 1024 1024 2 1 261120 0 0 0 0"));
+    release_job(job);
+}
+
+/* in form 2 with one tick each the same job, byte for byte */
+static void test_ticks_of_one(uint64_t *seed)
+{
+    plan_bytes plan;
+    jirvaldo_job *short_one, *long_one;
+    uint64_t go_on = random_bits(seed), go_on_too = go_on;
+    put_header(&plan, 1, 2, 80, 3, 50);
+    random_graph(&plan, 50, seed);
+    short_one = accepted(&plan);
+    in_form_2(&plan, 1);
+    long_one = accepted(&plan);
+    CHECK(drive_on(short_one, &go_on, 60) == drive_on(long_one, &go_on_too, 60));
+    CHECK(memcmp(short_one, long_one, sizeof *short_one) == 0);
+    release_job(short_one);
+    release_job(long_one);
 }
 
 /* all quanta that may begin, of 0 workers and one tick each; then as a log */
@@ -426,6 +543,10 @@ static void test_sentences(void)
         for (other = 0; other < number; other++) CHECK(strcmp(jirvaldo_sentence(number), jirvaldo_sentence(other)) != 0);
     }
     CHECK(jirvaldo_sentence(UINT32_MAX) == jirvaldo_sentence(23));
+    for (number = 24; number < 64; number++) {
+        CHECK((strcmp(jirvaldo_sentence(number), jirvaldo_sentence(23)) == 0) == (number != JIRVALDO_PLAN_TICKS));
+    }
+    for (number = 0; number < 23; number++) CHECK(strcmp(jirvaldo_sentence(number), jirvaldo_sentence(JIRVALDO_PLAN_TICKS)) != 0);
 }
 
 /* ---- jobs are plain data, and independent */
@@ -501,7 +622,7 @@ static void test_random_plans(uint64_t *seed)
     memset(job, 0x55, sizeof *job);
     memset(before, 0x55, sizeof *before);
     answer = accept_bytes(job, plan.bytes, plan.size);
-    CHECK(answer <= JIRVALDO_PLAN_LOOSE_END);
+    CHECK(answer <= JIRVALDO_PLAN_LOOSE_END || answer == JIRVALDO_PLAN_TICKS);
     if (answer != 0) {
         CHECK(memcmp(job, before, sizeof *job) == 0);
     } else {
@@ -603,21 +724,22 @@ static void test_random_logs(uint64_t *seed)
 /* ---- whole jobs */
 
 /* works a job to its end; the numbers before it is finished, too, keep the limits */
-static void work_to_the_end(const plan_bytes *plan, unsigned r, unsigned d, unsigned l, uint64_t seed, jirvaldo_numbers *shown)
+static void work_to_the_end(const plan_bytes *plan, unsigned r, unsigned d, unsigned l, unsigned ticks, uint64_t seed,
+    jirvaldo_numbers *shown)
 {
     jirvaldo_job *job = accepted(plan);
     unsigned answer = 0;
     while (answer == 0) {
         answer = drive(job, &seed);
-        check_limits(job, r, d, l);
+        check_limits(job, r, d, l, ticks);
     }
     CHECK(answer == JIRVALDO_JOB_FINISHED);
     *shown = jirvaldo_counters(job, 0);
     release_job(job);
 }
 
-/* the largest plan, with all the workers that the job wants: it comes to want 64, and gets them */
-static void test_most_workers(void)
+/* the largest plan, with tasks of so many ticks and all the workers that the job wants: it comes to want 64, and gets them */
+static void test_most_workers(unsigned ticks)
 {
     static const uint8_t choices[JIRVALDO_WORKERS_MAX] = {0};
     plan_bytes plan;
@@ -625,6 +747,7 @@ static void test_most_workers(void)
     jirvaldo_numbers n;
     uint64_t most = 0;
     fork_join(&plan, 4, 1, 1, 342);
+    if (ticks != 1) in_form_2(&plan, ticks);
     job = accepted(&plan);
     for (;;) {
         n = jirvaldo_counters(job, 0);
@@ -633,7 +756,7 @@ static void test_most_workers(void)
         CHECK(tick_bytes(job, choices, (size_t)n.desire) == 0);
         if (n.desire > most) most = n.desire;
     }
-    CHECK(n.worked == 1024 && n.work == 1024 && most == JIRVALDO_WORKERS_MAX && n.successes > 0);
+    CHECK(n.worked == 1024 && n.work == 1024 * ticks && most == JIRVALDO_WORKERS_MAX && n.successes > 0);
     release_job(job);
 }
 
@@ -641,11 +764,14 @@ static void test_whole_jobs(uint64_t *seed)
 {
     plan_bytes plan;
     jirvaldo_numbers n;
-    unsigned r = 2 + below(seed, 6), d = 1 + below(seed, 100), l = 1 + below(seed, 20), size = 1 + below(seed, 400);
+    unsigned r = 2 + below(seed, 6), d = 1 + below(seed, 100), l = 1 + below(seed, 20), size = 1 + below(seed, 400), ticks = size;
+    int lasts = below(seed, 2) == 0;
+    if (lasts) size = 1 + size / 4;
     put_header(&plan, 1, r, d, l, size);
     random_graph(&plan, size, seed);
-    work_to_the_end(&plan, r, d, l, random_bits(seed), &n);
-    CHECK(n.worked == size);
+    if (lasts) ticks = random_ticks(&plan, 7, seed);
+    work_to_the_end(&plan, r, d, l, ticks, random_bits(seed), &n);
+    CHECK(n.worked == size && n.work == ticks);
 }
 
 /* ---- threads: a job each, on a stack of 64 KiB, as one after the other */
@@ -686,6 +812,7 @@ static void test_threads(void)
     CHECK(pthread_attr_init(&small) == 0 && pthread_attr_setstacksize(&small, 65536) == 0);
     for (i = 0; i < THREADS; i++) {
         fork_join(&plans[i], 2 + i, 80, 3, 342 - i);
+        if (i % 2 != 0) in_form_2(&plans[i], 1 + i);
         at_once[i].plan = &plans[i];
         at_once[i].seed = i;
         at_once[i].job = job_block();
@@ -709,17 +836,21 @@ int main(int count, char **arguments)
     long rounds = count > 1 ? atol(arguments[1]) : 1000, i;
     uint64_t seed = 1;
     test_plans();
+    test_plans_of_form_2();
     test_calls();
     test_thefts();
     test_withdrawals();
     test_last_tick();
+    test_lasting_tasks();
+    test_most_work();
     test_spent_quanta();
     test_logs();
     test_wordings();
     test_lines();
     test_zeros();
     test_sentences();
-    test_most_workers();
+    test_most_workers(1);
+    test_most_workers(3);
     test_threads();
     for (i = 0; i < rounds; i++) {
         test_memory(&seed);
@@ -728,6 +859,7 @@ int main(int count, char **arguments)
         test_random_plans(&seed);
         test_random_logs(&seed);
         test_whole_jobs(&seed);
+        test_ticks_of_one(&seed);
     }
     printf("%lu checks passed\n", checks);
     return 0;

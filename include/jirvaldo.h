@@ -1,8 +1,9 @@
 /* Jirvaldo: a proved A-Steal scheduler core, for C99 and C++11 on x86-64 Linux. Link with -ljirvaldo; docs/INTEGRATING.md has the rest.
  *
  * A plan (a task graph in bytes) becomes a job in memory that you lend. A grant gives the job a number of workers and opens a quantum of
- * L ticks; in each tick every granted worker takes one cycle. A function answers with 0, or with the number of the refusal; the first
- * question that is answered by no gives the number. Nothing is allocated, nothing is kept between calls, no file is read or written.
+ * L ticks; in each tick every granted worker takes one cycle. A task lasts one tick in a plan of form 1, 1 to 255 in one of form 2, and is
+ * worked when all its ticks are done. A function answers with 0, or with the number of the refusal; the first question that is answered by
+ * no gives the number. Nothing is allocated, nothing is kept between calls, no file is read or written.
  *
  * Proved, for all that a caller can hand over: the jirvaldo_core functions in the archive (the contracts of crates/exports
  * and, for a log, of crates/exports_log).
@@ -24,21 +25,22 @@ extern "C" {
 
 enum {
     JIRVALDO_TASKS_MAX = 1024,  /* tasks of a plan */
-    JIRVALDO_PLAN_MAX = 3077,   /* bytes of the longest plan, 5 + 3 * 1,024 */
+    JIRVALDO_PLAN_MAX = 4101,   /* bytes of the longest plan, 5 + 4 * 1,024 */
+    JIRVALDO_TICKS_MAX = 255,   /* ticks that a task can last */
     JIRVALDO_WORKERS_MAX = 64,  /* workers that a job can want, and choices of a tick */
     JIRVALDO_QUANTA_MAX = 4096, /* quanta that a job may begin, those without a worker too */
     JIRVALDO_LINE_BUFFER = 128, /* bytes that a buffer for the counters line needs */
-    JIRVALDO_JOB_SIZE = 8848    /* bytes of a job */
+    JIRVALDO_JOB_SIZE = 10896   /* bytes of a job */
 };
 
 /* A job: plain data without pointers. Lend it and leave its fields alone. It need not be cleared before a plan is accepted into it; a byte
  * copy of a job is a job; there is nothing to free. */
 typedef struct jirvaldo_job {
     uint64_t words_[18];
-    uint16_t memory_[4352];
+    uint16_t memory_[5376];
 } jirvaldo_job;
 
-typedef char jirvaldo_job_has_8848_bytes[sizeof(jirvaldo_job) == JIRVALDO_JOB_SIZE ? 1 : -1];
+typedef char jirvaldo_job_has_10896_bytes[sizeof(jirvaldo_job) == JIRVALDO_JOB_SIZE ? 1 : -1];
 typedef char jirvaldo_sizes_have_64_bits[sizeof(size_t) == 8 ? 1 : -1];
 
 /* The refusals; jirvaldo_sentence says each. 21 and 22 are given by the program alone, by no function here. */
@@ -65,7 +67,8 @@ enum jirvaldo_refusal {
     JIRVALDO_SHEET_NO_LINE = 19,
     JIRVALDO_BUFFER_SMALL = 20,
     JIRVALDO_INPUT_LONG = 21,
-    JIRVALDO_INPUT_SHORT = 22
+    JIRVALDO_INPUT_SHORT = 22,
+    JIRVALDO_PLAN_TICKS = 28
 };
 
 enum jirvaldo_job_status {
@@ -85,11 +88,11 @@ typedef struct jirvaldo_part {
  * ticks: each granted worker counts one cycle in a tick, in the last one too. */
 typedef struct jirvaldo_numbers {
     uint64_t status;        /* of enum jirvaldo_job_status */
-    uint64_t worked;        /* tasks that are worked */
+    uint64_t worked;        /* tasks that are worked: all their ticks are done */
     uint64_t tasks;         /* tasks of the plan */
     uint64_t desire;        /* workers that the job wants next, 1 to 64 */
     uint64_t allotment;     /* workers that the last accepted grant gave */
-    uint64_t work;          /* cycles in which a worker worked a task */
+    uint64_t work;          /* cycles in which a worker did a tick of a task */
     uint64_t mug;           /* cycles in which a worker picked up the deque of a withdrawn one */
     uint64_t steal;         /* cycles in which a worker tried to take tasks from another's deque, or came after the job's last task */
     uint64_t successes;     /* how many of these took some */
@@ -107,7 +110,8 @@ void jirvaldo_core_counters(const uint64_t *words, uint64_t refusals, uint64_t *
 uint8_t jirvaldo_core_line(const uint64_t *words, uint64_t refusals, uint8_t *buffer, size_t buffer_size, size_t *size);
 
 /* Accepts a plan of any bytes. 0: the memory holds the fresh job of this plan, whatever it held before; the plan's bytes are not needed
- * any more. 1 to 10: the plan breaks that rule, and the memory is byte for byte as it came. */
+ * any more. A plan of form 2 has a fourth byte a task, the ticks that it lasts. 1 to 10, 28: the plan breaks that rule, and the memory is
+ * byte for byte as it came; 28 is asked of a task after 7 and 8, before the next task. */
 static inline unsigned jirvaldo_accept(jirvaldo_job *job, const uint8_t *plan, size_t size)
 {
     const uint8_t none = 0;
@@ -124,10 +128,12 @@ static inline unsigned jirvaldo_grant(jirvaldo_job *job, uint64_t workers)
 }
 
 /* One tick, with the number of a worker to steal from for each granted worker. 0: each worker took its cycle, in number order; the L-th tick
- * of an unfinished job closes the quantum. A worker that steals gets the back half of the chosen deque, rounded down and in its order, if
- * that has two or more tasks, and else nothing. A worker after the one that finished the job counts a steal, which gets nothing. 11: the job
- * is finished. 15: no quantum is open. 16: there is not exactly one choice for each granted worker. 17: a choice is not below the granted
- * number. Refused, the job is byte for byte as it was. */
+ * of an unfinished job closes the quantum. A worker that works does one tick of its deque's front task, which stays at the front until its
+ * last one; then it is worked, and those of its successors that became ready take its place. A deque that is withdrawn or mugged keeps the
+ * ticks that are done. A worker that steals gets the back half of the chosen deque, rounded down and in its order, if that has two or more
+ * tasks, and else nothing. A worker after the one that finished the job counts a steal, which gets nothing. 11: the job is finished. 15: no
+ * quantum is open. 16: there is not exactly one choice for each granted worker. 17: a choice is not below the granted number. Refused, the
+ * job is byte for byte as it was. */
 static inline unsigned jirvaldo_tick(jirvaldo_job *job, const uint8_t *choices, size_t size)
 {
     const uint8_t none = 0;
@@ -203,11 +209,11 @@ static inline const char *jirvaldo_sentence(unsigned number)
     switch (number) {
     case JIRVALDO_OK: return "Accepted.";
     case JIRVALDO_PLAN_SHORT: return "The plan has fewer than 5 bytes, so its header is not whole.";
-    case JIRVALDO_PLAN_FORM: return "The plan's form is not 1, the only form there is.";
+    case JIRVALDO_PLAN_FORM: return "The plan's form is neither 1 nor 2.";
     case JIRVALDO_PLAN_RESPONSIVENESS: return "The plan's R, the responsiveness, is below 2.";
     case JIRVALDO_PLAN_UTILIZATION: return "The plan's D, the utilization in percent, is not from 1 to 100.";
     case JIRVALDO_PLAN_QUANTUM_LENGTH: return "The plan's L, the quantum length, is 0; a quantum has at least one tick.";
-    case JIRVALDO_PLAN_LENGTH: return "The plan is not 5 + 3 * N bytes long for the N tasks that its header names.";
+    case JIRVALDO_PLAN_LENGTH: return "The plan is not 5 + 3 * N bytes long in form 1, or 5 + 4 * N in form 2, for its header's N tasks.";
     case JIRVALDO_PLAN_FIELDS: return "A task's successor count is 3, or one of its unused successor fields is not 0.";
     case JIRVALDO_PLAN_SUCCESSORS: return "A task's successor is not above the task, is not below N, or is named twice.";
     case JIRVALDO_PLAN_PREDECESSORS: return "A task from 1 up has no predecessor, or more than two.";
@@ -224,6 +230,7 @@ static inline const char *jirvaldo_sentence(unsigned number)
     case JIRVALDO_BUFFER_SMALL: return "The buffer for the counters line has fewer than 128 bytes.";
     case JIRVALDO_INPUT_LONG: return "The program's input has more than 65,536 bytes.";
     case JIRVALDO_INPUT_SHORT: return "The program's input ends before the plan does.";
+    case JIRVALDO_PLAN_TICKS: return "A task's ticks are 0; a task lasts at least one tick.";
     default: return "This number is no refusal.";
     }
 }

@@ -77,13 +77,18 @@ fn tree(graph: &mut Graph, leaves: usize, leaf: Leaf) -> (usize, usize) {
     (fork, join)
 }
 
-/// A plan's bytes, with D = 1, so that a worker in 64 is enough for an efficient quantum.
-fn plan_bytes(graph: &Graph, responsiveness: usize, length: usize) -> Vec<u8> {
+/// A plan with D = 1, so that a worker in 64 is enough for an efficient quantum.
+fn draft(graph: &Graph, responsiveness: usize, length: usize) -> Draft {
     let mut draft = Draft::of_graph(graph);
     draft.responsiveness = responsiveness as u64;
     draft.utilization = 1;
     draft.quantum_length = length as u64;
-    draft.bytes()
+    draft
+}
+
+/// Its bytes in form 1.
+fn plan_bytes(graph: &Graph, responsiveness: usize, length: usize) -> Vec<u8> {
+    draft(graph, responsiveness, length).bytes()
 }
 
 fn writer(plan: &[u8]) -> Writer {
@@ -125,6 +130,16 @@ fn cycles(scene: &Scene) -> (usize, usize, usize) {
     let after = counts(&job);
     let more = |kind: usize| (after[kind] - before[kind]) as usize;
     (more(0), more(1), more(2))
+}
+
+/// How many tasks a scene's measured calls complete.
+fn completed(scene: &Scene) -> usize {
+    let mut job = Job::accept(&scene.plan).expect("the benchmark's plans are sound");
+    let worked = |job: &Job| job.left().iter().filter(|&&left| left == 0).count();
+    run_log(&mut job, &scene.before);
+    let before = worked(&job);
+    run_log(&mut job, &scene.timed);
+    worked(&job) - before
 }
 
 /// Of each steal of a scene's measured calls that succeeds: the tasks it takes, and those it leaves, which are the links that it follows.
@@ -184,6 +199,33 @@ pub fn working(workers: usize) -> Scene {
         (length * workers, 0, 0),
         "every worker works"
     );
+    scene
+}
+
+/// 64 workers work in every measured tick, on tasks of 1 to 15 ticks: one on each leaf of a tree, a chain of 14. The measured ticks are one
+/// quantum of 32; of their 2,048 work ticks 273 are a task's last.
+pub fn lasting() -> Scene {
+    let mut random = Random::new(5);
+    let (workers, length) = (64, 32);
+    let (responsiveness, quanta) = growth(workers);
+    let mut graph = Graph::new();
+    let start = task(&mut graph);
+    let (root, _) = tree(&mut graph, workers, Leaf::Chain(14));
+    edge(&mut graph, start, root);
+    let ticks = |task: usize| match graph[task].len() {
+        _ if task == start => quanta * length + 1,
+        2 => 1,
+        _ => random.between(1, 15),
+    };
+    let ticks: Vec<usize> = (0..graph.len()).map(ticks).collect();
+    let draft = draft(&graph, responsiveness, length).lasting(|task| ticks[task] as u32);
+    let scene = two_quanta(draft.bytes(), quanta, workers);
+    assert_eq!(
+        cycles(&scene),
+        (length * workers, 0, 0),
+        "every worker works"
+    );
+    assert_eq!(completed(&scene), 273, "of 2,048 ticks");
     scene
 }
 
@@ -307,7 +349,7 @@ pub fn withdrawn() -> Scene {
 }
 
 /// Plans of so many tasks: chains, combs, fork-joins and layers, with one and two successors in any order.
-pub fn plans(tasks: usize, count: usize) -> Vec<Vec<u8>> {
+fn drafts(tasks: usize, count: usize) -> impl Iterator<Item = Draft> {
     let shapes = [
         Shape::ForkJoin,
         Shape::Layered { width: 16 },
@@ -315,13 +357,20 @@ pub fn plans(tasks: usize, count: usize) -> Vec<Vec<u8>> {
         Shape::Layered { width: 100 },
     ];
     let mut random = Random::new(1);
-    let mut one = |shape: Shape| plan_bytes(&graph(&mut random, shape, tasks), 2, 8);
-    shapes
-        .iter()
-        .cycle()
-        .take(count)
-        .map(|&shape| one(shape))
-        .collect()
+    let one = move |shape: Shape| draft(&graph(&mut random, shape, tasks), 2, 8);
+    shapes.into_iter().cycle().take(count).map(one)
+}
+
+/// Such plans in form 1.
+pub fn plans(tasks: usize, count: usize) -> Vec<Vec<u8>> {
+    drafts(tasks, count).map(|draft| draft.bytes()).collect()
+}
+
+/// The same in form 2, with tasks of 1 to 255 ticks.
+pub fn lasting_plans(tasks: usize, count: usize) -> Vec<Vec<u8>> {
+    let mut random = Random::new(6);
+    let mut bytes = |draft: Draft| draft.lasting(|_| random.between(1, 255) as u32).bytes();
+    drafts(tasks, count).map(&mut bytes).collect()
 }
 
 /// The most bytes of a log here: as many as the program's whole input may have.

@@ -3,9 +3,12 @@
 /// A job as the library takes it: its memory and its words.
 #[derive(Clone)]
 pub struct Job {
-    memory: [u16; 4352],
+    memory: [u16; MEMORY],
     words: [u64; 18],
 }
+
+/// Five numbers of each task, and the ends of the deques.
+const MEMORY: usize = 5 * 1024 + 256;
 
 #[link(name = "jirvaldo", kind = "static")]
 extern "C" {
@@ -52,7 +55,7 @@ impl Job {
     /// Memory for a job, which is none until a plan is accepted.
     pub fn blank() -> Job {
         Job {
-            memory: [0; 4352],
+            memory: [0; MEMORY],
             words: [0; 18],
         }
     }

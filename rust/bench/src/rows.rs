@@ -311,10 +311,9 @@ pub fn ticks(name: &str, scene: &Scene) -> Row {
     )
 }
 
-/// A row of acceptances of plans of so many tasks.
-pub fn acceptances(name: &str, tasks: usize) -> Row {
-    let plans = inputs::plans(tasks, 16);
-    row!(name, "plan", plans.len(), accepts, &plans)
+/// A row of acceptances.
+pub fn acceptances(name: &str, plans: &[Vec<u8>]) -> Row {
+    row!(name, "plan", plans.len(), accepts, plans)
 }
 
 /// A row of one log.
@@ -329,10 +328,12 @@ pub fn table() -> Vec<Row> {
     let withdrawn = inputs::withdrawn();
     let long_lines = [&b"x".repeat(999)[..], b"\n"].concat().repeat(4);
     vec![
-        acceptances("accept-1024", 1024),
+        acceptances("accept-1024", &inputs::plans(1024, 16)),
+        acceptances("accept-lasting", &inputs::lasting_plans(1024, 16)),
         ticks("tick-work-1", &inputs::working(1)),
         ticks("tick-work-8", &inputs::working(8)),
         ticks("tick-work-64", &inputs::working(64)),
+        ticks("tick-lasting-64", &inputs::lasting()),
         ticks("tick-vain-8", &inputs::in_vain(8)),
         ticks("tick-vain-64", &inputs::in_vain(64)),
         ticks("tick-steal-64", &inputs::thieves()),
@@ -365,7 +366,8 @@ pub fn table() -> Vec<Row> {
 /// The rows that show how costs grow: with the number of tasks, and with the number of workers.
 pub fn growth() -> Vec<Row> {
     let powers = |most: u32| (0..=most).map(|power| 1usize << power);
-    let accept = powers(10).map(|tasks| acceptances(&format!("accept {}", tasks), tasks));
+    let plans = |tasks: usize| inputs::plans(tasks, 16);
+    let accept = powers(10).map(|tasks| acceptances(&format!("accept {}", tasks), &plans(tasks)));
     let run = powers(10).map(|tasks| replay(&format!("run {}", tasks), &inputs::whole_run(tasks)));
     let work =
         powers(6).map(|workers| ticks(&format!("work {}", workers), &inputs::working(workers)));

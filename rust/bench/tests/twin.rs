@@ -9,7 +9,7 @@ use reference::{counters_line, wording, Job as Reference};
 fn view(job: &Reference) -> View {
     let tasks = |deque: &reference::job::Deque| deque.iter().copied().collect();
     View {
-        worked: job.worked().to_vec(),
+        left: job.left().to_vec(),
         deques: job.deques().iter().map(tasks).collect(),
         muggable: job.muggable_deques().into_iter().map(tasks).collect(),
         desire: job.desire(),
@@ -102,7 +102,7 @@ fn decimal_numbers() {
 
 #[test]
 fn refused_plans_of_every_number() {
-    let mut numbers = [0u32; 11];
+    let mut numbers = [0u32; 29];
     let mut twin = Job::blank();
     for case in cases(11).take(20_000) {
         let number = twin.accept(&case.plan);
@@ -112,5 +112,47 @@ fn refused_plans_of_every_number() {
         assert_eq!(number, expected);
         numbers[usize::from(number)] += 1;
     }
-    assert!(numbers.iter().all(|&n| n > 0), "{:?}", numbers);
+    let asked = numbers[..=10].iter().chain(&numbers[28..]);
+    assert!(asked.copied().all(|n| n > 0), "{:?}", numbers);
+}
+
+/// The plan in form 2, of one in form 1, with ticks in turn; a period of 1 has those of form 1.
+fn lasting(plan: &[u8], period: usize) -> Vec<u8> {
+    let mut bytes = plan[..5].to_vec();
+    bytes[0] = 0x20 | bytes[0] & 15;
+    for (number, task) in plan[5..].chunks_exact(3).enumerate() {
+        bytes.extend_from_slice(task);
+        bytes.push([1, 3, 2, 255, 1, 17][number % period]);
+    }
+    bytes
+}
+
+/// The log of a case, on the plan of the same graph in form 2; again as long as it goes on, so that tasks that last are worked.
+#[test]
+fn the_same_graphs_in_form_2() {
+    let (mut twin, mut finished) = (Job::blank(), 0);
+    for case in cases(5).take(3_000) {
+        if case.plan.first().map_or(true, |&first| first >> 4 != 1) || twin.accept(&case.plan) != 0
+        {
+            continue;
+        }
+        for period in [1, 2, 3, 6] {
+            let plan = lasting(&case.plan, period);
+            let mut job = Reference::accept(&plan).expect("a sound plan");
+            assert_eq!(twin.accept(&plan), 0);
+            for _ in 0..5 {
+                let mut refused = 7;
+                let outcome = run_log_with(&mut job, &case.log, |_, _, _| ());
+                let number = twin.run_log(&case.log, &mut refused);
+                assert_eq!(
+                    (number, refused),
+                    (outcome.broken.map_or(0, |r| r.number()), outcome.refused)
+                );
+                assert_eq!(twin.view(), view(&job));
+                same_texts(&twin, &job, refused, &case.sheet, case.buffer);
+            }
+            finished += u32::from(job.is_finished() && period > 1);
+        }
+    }
+    assert!(finished > 100, "{}", finished);
 }

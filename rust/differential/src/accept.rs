@@ -23,6 +23,16 @@ pub fn accept(
     } else {
         Proved::accept(plan)
     };
+    answered(plan, proved, reference, totals)
+}
+
+/// Compares two answers to a plan.
+pub fn answered(
+    plan: &[u8],
+    proved: Result<Proved, jirvaldo::Refusal>,
+    reference: Result<Reference, reference::Refusal>,
+    totals: &mut Totals,
+) -> Result<Option<Pair>, Difference> {
     let (number, other) = (proved_number(&proved), reference_number(&reference));
     totals.count_refusal(number);
     match (proved, reference) {
@@ -46,7 +56,7 @@ pub fn fresh(pair: Pair, totals: &mut Totals) -> Result<Pair, Difference> {
     if let Some(part) = compare::plans(&pair.proved, &pair.reference) {
         return Err(pair.difference(part, "the accepted plan".into()));
     }
-    totals.count_plan(pair.reference.plan().responsiveness());
+    totals.count_plan(pair.reference.plan());
     pair.compare(totals)?;
     Ok(pair)
 }

@@ -61,10 +61,7 @@ pub fn counters(shown: &Counters, reference: &Reference, refused: u64) -> Option
             "status",
             shown.status.number() == reference.status().number(),
         ),
-        (
-            "counters: worked",
-            shown.worked == count(reference.worked_count()),
-        ),
+        ("counters: worked", shown.worked == reference.worked_count()),
         (
             "counters: tasks",
             shown.tasks == count(reference.plan().task_count()),
@@ -88,15 +85,16 @@ pub fn counters(shown: &Counters, reference: &Reference, refused: u64) -> Option
     ])
 }
 
-/// The worked tasks and all deques, task by task.
+/// The worked tasks, the ticks left and all deques, task by task.
 fn tasks(view: View, reference: &Reference) -> Option<Part> {
-    let worked = reference.worked().iter().copied();
+    let left = reference.left().iter().copied();
     let mut deques = reference.deques().iter().enumerate();
     let muggable = reference.muggable_deques();
     let mut ages = muggable.iter().enumerate();
     let waiting = view.muggable_deques() == muggable.len();
     first_other(&[
-        ("worked tasks", view.worked().eq(worked)),
+        ("worked tasks", view.worked().eq(reference.worked())),
+        ("ticks left", view.left().eq(left)),
         (
             "deques",
             deques.all(|(worker, deque)| view.deque(worker).eq(deque.iter().copied())),
@@ -113,6 +111,7 @@ fn tasks(view: View, reference: &Reference) -> Option<Part> {
 pub fn plans(proved: &Proved, reference: &Reference) -> Option<Part> {
     let (view, plan) = (View::of(proved), reference.plan());
     let mut tasks = plan.tasks().iter().enumerate();
+    let ticks = plan.tasks().iter().map(|task| task.ticks());
     let same = |(number, task): (usize, &reference::Task)| {
         let successors = task.successors().iter().copied();
         view.successors(number).eq(successors)
@@ -129,5 +128,6 @@ pub fn plans(proved: &Proved, reference: &Reference) -> Option<Part> {
         ),
         ("N", view.tasks() == plan.task_count()),
         ("successors", tasks.all(same)),
+        ("ticks", view.durations().eq(ticks)),
     ])
 }

@@ -1,8 +1,8 @@
 //! The inputs of a case, over the reference's generator: plans, logs, sheets, buffers.
 
-use reference::generator::damage::{damaged, damaged_twice, flipped};
+use reference::generator::damage::damaged_plan;
 use reference::generator::logs::{blind_log, guided_log, style, Style};
-use reference::generator::plans::{sound_draft, wide_draft};
+use reference::generator::plans::{lasting, sound_draft, wide_draft};
 use reference::generator::Random;
 
 use crate::pair::Reference;
@@ -11,18 +11,18 @@ use crate::pair::Reference;
 const LONG_QUANTUM: u32 = 1_000;
 const MOST_IN_LONG_QUANTA: usize = 2_000;
 
-/// A plan: sound (two of three), damaged, or noise.
+/// A plan: sound (two of three), damaged, or noise. Two of five are of form 2.
 pub fn plan(random: &mut Random) -> Vec<u8> {
-    let draft = if random.chance(64) {
+    let mut draft = if random.chance(64) {
         wide_draft(random)
     } else {
         sound_draft(random)
     };
-    let aim = random.between(1, 10) as u8;
+    if !draft.has_ticks && random.chance(40) {
+        draft = lasting(random, draft);
+    }
     match random.below(24) {
-        0 | 1 => flipped(random, &draft),
-        2 | 3 => damaged_twice(random, &draft),
-        4..=6 => damaged(random, &draft, aim),
+        0..=6 => damaged_plan(random, &draft),
         7 => {
             let size = random.below(40);
             random.bytes(size)

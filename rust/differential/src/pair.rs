@@ -90,6 +90,7 @@ impl Pair {
             Call::Tick(choices) => {
                 let answer = self.reference.tick(choices);
                 if let Ok(report) = &answer {
+                    totals.count_work(report);
                     totals.count_thefts(report);
                     if self.reference.is_finished() {
                         totals.count_finish(report);

@@ -16,23 +16,24 @@ use crate::walk::Walk;
 
 /// Runs cases until the calls or the time are spent, or something differs.
 pub fn run(options: &Options, totals: &mut Totals) -> Result<(), Found> {
+    let edges = edge_plans();
     if let Some(case) = options.case {
-        return run_case(options.seed, case, totals);
+        return run_case(options.seed, case, &edges, totals);
     }
     let start = Instant::now();
     let mut case = 0;
     while totals.calls < options.calls && start.elapsed() < options.time {
-        run_case(options.seed, case, totals)?;
+        run_case(options.seed, case, &edges, totals)?;
         case += 1;
     }
     Ok(())
 }
 
 /// A case has its own random numbers, from the seed and the case's number.
-fn run_case(seed: u64, case: u64, totals: &mut Totals) -> Result<(), Found> {
+fn run_case(seed: u64, case: u64, edges: &[Vec<u8>], totals: &mut Totals) -> Result<(), Found> {
     let calls = totals.calls;
     let start = Random::new(seed).next_u64() ^ Random::new(!case).next_u64();
-    let ran = try_case(&mut Random::new(start), case, totals);
+    let ran = try_case(&mut Random::new(start), case, edges, totals);
     totals.cases += 1;
     ran.map_err(|difference| Found {
         case,
@@ -48,18 +49,24 @@ fn is_marathon(case: u64) -> bool {
 
 /// Every hundredth case has a plan for as many quanta as a job may begin. The cases after the first have those at the edge of each
 /// question, all others any.
-fn plan(random: &mut Random, case: u64) -> Vec<u8> {
+fn plan(random: &mut Random, case: u64, edges: &[Vec<u8>]) -> Vec<u8> {
     if is_marathon(case) {
         return marathon_draft(random).bytes();
     }
-    let place = usize::try_from(case - 1).unwrap_or(usize::MAX);
-    let edge = edge_plans().into_iter().nth(place);
-    edge.unwrap_or_else(|| inputs::plan(random))
+    let others_before = case - 1 - case / 100;
+    let edge = usize::try_from(others_before).ok();
+    let edge = edge.and_then(|place| edges.get(place));
+    edge.cloned().unwrap_or_else(|| inputs::plan(random))
 }
 
 /// A plan and, where it is accepted, a log, which at times is run whole too, and always where it spends every quantum.
-fn try_case(random: &mut Random, case: u64, totals: &mut Totals) -> Result<(), Difference> {
-    let plan = plan(random, case);
+fn try_case(
+    random: &mut Random,
+    case: u64,
+    edges: &[Vec<u8>],
+    totals: &mut Totals,
+) -> Result<(), Difference> {
+    let plan = plan(random, case, edges);
     let pair = match accept(random, &plan, totals)? {
         Some(pair) => pair,
         None => return Ok(()),

@@ -5,9 +5,10 @@ use std::time::Duration;
 use reference::generator::logs::marathon_log;
 use reference::generator::plans::{marathon_draft, sound_draft, Draft};
 use reference::generator::Random;
-use reference::{rest, theft, withdrawal, DigitCount, Entries, Rest, Rules, MOST_QUANTA};
+use reference::{form, lasting, rest, theft, withdrawal};
+use reference::{DigitCount, Entries, Lasting, Rest, Rules, MOST_QUANTA};
 
-use crate::accept::fresh;
+use crate::accept::{answered, fresh};
 use crate::compare::{self, Part};
 use crate::difference::Difference;
 use crate::inputs;
@@ -83,7 +84,7 @@ fn other_deques_are_found() {
 #[test]
 fn other_plans_are_found() {
     type Change = fn(&mut Draft);
-    let changes: [(Part, Change); 5] = [
+    let changes: [(Part, Change); 6] = [
         ("R", |draft| draft.responsiveness = 3),
         ("D", |draft| draft.utilization = 81),
         ("L", |draft| draft.quantum_length = 65_535),
@@ -91,6 +92,7 @@ fn other_plans_are_found() {
             *draft = with_length(Draft::of_graph(&vec![vec![1], vec![]]), 1)
         }),
         ("successors", |draft| *draft = turned(fork(), 1)),
+        ("ticks", |draft| *draft = lasting_fork(6, 255)),
     ];
     for (part, change) in changes {
         let mut other = fork();
@@ -99,6 +101,27 @@ fn other_plans_are_found() {
         assert_eq!(found.err().map(|difference| difference.part), Some(part));
     }
     assert!(fresh(pair(&fork(), &fork()), &mut Totals::default()).is_ok());
+    // Tasks of one tick in form 2 are those of form 1.
+    let one = lasting_fork(6, 1);
+    assert!(fresh(pair(&fork(), &one), &mut Totals::default()).is_ok());
+}
+
+/// The same in form 2, where one task lasts so many ticks and the others one.
+fn lasting_fork(lasts: usize, ticks: u32) -> Draft {
+    fork().lasting(|task| if task == lasts { ticks } else { 1 })
+}
+
+#[test]
+fn other_ticks_are_found() {
+    let part = |ticks, log: &[u8]| {
+        let plans = [3, ticks].map(|ticks| lasting_fork(0, ticks));
+        part_after(pair(&plans[0], &plans[1]), log, log)
+    };
+    let one = [1, 0x81, 0];
+    assert_eq!(part(3, &one), None);
+    assert_eq!(part(3, &one.repeat(3)), None);
+    assert_eq!(part(4, &one), Some("ticks left"));
+    assert_eq!(part(2, &one.repeat(2)), Some("counters: worked"));
 }
 
 /// Walks a generated log with a reference whose plan has one task's fields turned around, or none.
@@ -204,7 +227,7 @@ fn another_theft_is_found() {
     let right = Rules::default();
     for theft in theft::BENT {
         // Not in all: most logs have few steals that succeed, and most of these take one task.
-        let parts = parts_with_bent(Rules { theft, ..right }, 200);
+        let parts = parts_with_bent(Rules { theft, ..right }, 400);
         let part = if theft.each_succeeds {
             "successful steals"
         } else {
@@ -219,7 +242,7 @@ fn another_turn_is_found() {
     let right = Rules::default();
     for turn in withdrawal::BENT {
         // Not in all: it takes a grant that withdraws two deques, or one while others wait.
-        let parts = parts_with_bent(Rules { turn, ..right }, 1_000);
+        let parts = parts_with_bent(Rules { turn, ..right }, 1_500);
         // The grant itself shows it, before anything is taken.
         assert!(parts.iter().all(|&part| part == "muggable deques"));
     }
@@ -237,6 +260,50 @@ fn another_rest_is_found() {
             _ => "steal cycles",
         };
         assert!(parts.iter().all(|&found| found == part));
+    }
+}
+
+#[test]
+fn another_lasting_is_found() {
+    let right = Rules::default();
+    for lasting in lasting::BENT {
+        // Not in all: it takes a plan of form 2, and a log that goes so far.
+        let parts = parts_with_bent(Rules { lasting, ..right }, 1_000);
+        let part = match lasting {
+            Lasting::AnewWithdrawn | Lasting::AnewMugged | Lasting::AnewRobbed => "ticks left",
+            Lasting::BegunIsWorked | Lasting::TicksAsWorked => "counters: worked",
+            Lasting::WorkedAsTicks => "work cycles",
+            Lasting::WorkedAsUsage => "usage",
+            _ => "deques",
+        };
+        assert!(parts.contains(&part), "{lasting:?}: {parts:?}");
+    }
+}
+
+/// How many of so many generated plans are answered otherwise by each bent reading.
+fn read_otherwise(plans: u64) -> Vec<usize> {
+    let mut found = vec![0; form::BENT.len()];
+    for seed in 0..plans {
+        let plan = inputs::plan(&mut Random::new(seed));
+        for (place, (reading, _)) in form::BENT.into_iter().enumerate() {
+            let rules = Rules {
+                reading,
+                ..Rules::default()
+            };
+            let reference = Reference::accept_with(&plan, rules);
+            let totals = &mut Totals::default();
+            let same = answered(&plan, Proved::accept(&plan), reference, totals);
+            found[place] += usize::from(same.is_err());
+        }
+    }
+    found
+}
+
+#[test]
+fn another_reading_is_found() {
+    let found = read_otherwise(4_000);
+    for ((_, name), found) in form::BENT.iter().zip(found) {
+        assert!(found > 25, "{found} with {name}");
     }
 }
 
@@ -353,7 +420,8 @@ fn a_run_reaches_every_refusal() {
         ran.err().map_or(String::new(), |found| found.to_string())
     );
     assert!(totals.calls >= 250_000 && totals.states > totals.calls);
-    assert!(totals.refusals[1..].iter().all(|&count| count > 0));
+    let numbers = jirvaldo::Refusal::ALL.map(|refusal| usize::from(refusal.number()));
+    assert!(numbers.iter().all(|&number| totals.refusals[number] > 0));
     assert!(totals.log_refusals[11..=17].iter().all(|&count| count > 0));
     assert!(totals.responsiveness[2..].iter().all(|&count| count > 0));
     assert!(totals.ticks[0] > 0 && totals.ticks[64] > 0);
@@ -361,6 +429,9 @@ fn a_run_reaches_every_refusal() {
     assert!(totals.thefts.iter().all(|&count| count > 0));
     assert!(totals.withdrawals.iter().all(|&count| count > 0) && totals.behind > 0);
     assert!(totals.finishes.iter().all(|&count| count > 0));
+    assert!(totals.lasting.iter().all(|&count| count > 0));
+    assert!(totals.ticks_of_tasks.iter().all(|&count| count > 0));
+    assert!(totals.begun.iter().all(|&count| count > 0));
 }
 
 #[test]

@@ -2,9 +2,15 @@
 
 use std::fmt;
 
-use reference::{Cycle, DigitCount, GrantReport, TickReport};
+use reference::{Cycle, DigitCount, GrantReport, Plan, Tick, TickReport};
 
 use crate::pair::{Call, Reference};
+
+/// A place for each number of a refusal up to the highest, 28.
+const NUMBERS: usize = 29;
+
+/// The numbers with which a plan is refused.
+const OF_PLANS: [usize; 11] = [1, 2, 3, 4, 5, 6, 7, 8, 9, 10, 28];
 
 /// Counts of a run.
 #[derive(Clone, Debug, PartialEq, Eq)]
@@ -16,8 +22,10 @@ pub struct Totals {
     pub replacements: u64,
     /// Accepted plans by R.
     pub responsiveness: [u64; 8],
-    /// Refusals by number; place 0 is not used.
-    pub refusals: [u64; 21],
+    /// Those of them with a task of several ticks, and with one of 255.
+    pub lasting: [u64; 2],
+    /// Refusals by number; places that are no number are not used.
+    pub refusals: [u64; NUMBERS],
     /// Grants and ticks after each of which the whole states were compared.
     pub calls: u64,
     /// Those of them that were refused.
@@ -26,6 +34,10 @@ pub struct Totals {
     pub ticks: [u64; 65],
     /// Work, mug and steal cycles and successful steals of the jobs that logs moved call by call.
     pub cycles: [u64; 4],
+    /// Work cycles of all calls by their place among the ticks of a task of several: the first, one between, the last.
+    pub ticks_of_tasks: [u64; 3],
+    /// Deques of a begun task in all calls: withdrawn, mugged, and robbed behind it.
+    pub begun: [u64; 3],
     /// Steal cycles of all calls by the tasks taken: none, one, two, three, or more.
     pub thefts: [u64; 5],
     /// Accepted grants of all calls by the deques that they made muggable: none, one, two, three, or more.
@@ -39,7 +51,7 @@ pub struct Totals {
     /// The calls in them; the states were compared at the log's end.
     pub log_calls: u64,
     /// Those of them that were refused, by number, as the reference says; the two sides' counts of them are compared.
-    pub log_refusals: [u64; 21],
+    pub log_refusals: [u64; NUMBERS],
     /// Comparisons of whole states.
     pub states: u64,
     /// Copies that took other calls than their original.
@@ -57,18 +69,21 @@ impl Default for Totals {
             plans: 0,
             replacements: 0,
             responsiveness: [0; 8],
-            refusals: [0; 21],
+            lasting: [0; 2],
+            refusals: [0; NUMBERS],
             calls: 0,
             refused_calls: 0,
             ticks: [0; 65],
             cycles: [0; 4],
+            ticks_of_tasks: [0; 3],
+            begun: [0; 3],
             thefts: [0; 5],
             withdrawals: [0; 5],
             behind: 0,
             finishes: [0; 5],
             logs: 0,
             log_calls: 0,
-            log_refusals: [0; 21],
+            log_refusals: [0; NUMBERS],
             states: 0,
             branches: 0,
             wordings: 0,
@@ -94,9 +109,12 @@ impl Totals {
     }
 
     /// Counts an accepted plan.
-    pub fn count_plan(&mut self, responsiveness: usize) {
+    pub fn count_plan(&mut self, plan: &Plan) {
         self.plans += 1;
-        add(&mut self.responsiveness, responsiveness);
+        add(&mut self.responsiveness, plan.responsiveness());
+        let most = plan.tasks().iter().map(|task| task.ticks()).max();
+        self.lasting[0] += u64::from(most > Some(1));
+        self.lasting[1] += u64::from(most == Some(255));
     }
 
     /// Counts a call and its answer.
@@ -106,6 +124,26 @@ impl Totals {
         self.count_refusal(number);
         if let (Call::Tick(choices), 0) = (call, number) {
             add(&mut self.ticks, choices.len());
+        }
+    }
+
+    /// Counts what a tick does to tasks of several ticks.
+    pub fn count_work(&mut self, report: &TickReport) {
+        for cycle in &report.cycles {
+            match *cycle {
+                Cycle::Work { tick, .. } => self.count_tick(tick),
+                Cycle::Mug { begun, .. } => self.begun[1] += u64::from(begun),
+                Cycle::Steal { begun, .. } => self.begun[2] += u64::from(begun),
+            }
+        }
+    }
+
+    fn count_tick(&mut self, tick: Tick) {
+        match (tick.is_first, tick.is_last) {
+            (true, true) => (),
+            (true, false) => self.ticks_of_tasks[0] += 1,
+            (false, false) => self.ticks_of_tasks[1] += 1,
+            (false, true) => self.ticks_of_tasks[2] += 1,
         }
     }
 
@@ -128,6 +166,7 @@ impl Totals {
     pub fn count_withdrawn(&mut self, report: &GrantReport) {
         add(&mut self.withdrawals, report.made_muggable.min(4));
         self.behind += u64::from(report.made_muggable > 1 && report.waited > 0);
+        self.begun[0] += report.begun as u64;
     }
 
     /// Counts the cycles of a job at the end of its way.
@@ -166,7 +205,7 @@ impl Totals {
 
 impl fmt::Display for Totals {
     fn fmt(&self, out: &mut fmt::Formatter<'_>) -> fmt::Result {
-        let refused_plans: u64 = self.refusals[1..=10].iter().sum();
+        let refused_plans: u64 = OF_PLANS.iter().map(|&number| self.refusals[number]).sum();
         let ticks = |from: usize, to: usize| self.ticks[from..=to].iter().sum::<u64>();
         writeln!(out, "{:>12}  cases", self.cases)?;
         writeln!(
@@ -175,6 +214,11 @@ impl fmt::Display for Totals {
             self.plans,
             &self.responsiveness[2..]
         )?;
+        let [several, longest] = self.lasting;
+        writeln!(
+            out,
+            "{several:>12}  of them with tasks of several ticks, {longest} with one of 255"
+        )?;
         writeln!(out, "{refused_plans:>12}  plans refused")?;
         writeln!(
             out,
@@ -182,7 +226,10 @@ impl fmt::Display for Totals {
             self.replacements
         )?;
         let in_logs = self.refusals.iter().zip(self.log_refusals);
-        for (number, (count, in_logs)) in in_logs.enumerate().skip(1) {
+        let numbers = in_logs
+            .enumerate()
+            .filter(|(number, _)| matches!(number, 1..=20 | 28));
+        for (number, (count, in_logs)) in numbers {
             write!(out, "{count:>12}  refusals {number}")?;
             match number {
                 11..=17 => writeln!(out, ", and {in_logs} in logs run whole")?,
@@ -205,6 +252,16 @@ impl fmt::Display for Totals {
         writeln!(out, "{:>12}  comparisons of whole states", self.states)?;
         let [work, mug, steal, successes] = self.cycles;
         writeln!(out, "{work:>12}  work cycles, {mug} mug cycles, {steal} steal cycles, {successes} with success")?;
+        let [first, between, last] = self.ticks_of_tasks;
+        writeln!(
+            out,
+            "{first:>12}  first ticks of tasks of several, {between} between, {last} last ones"
+        )?;
+        let [withdrawn, mugged, robbed] = self.begun;
+        writeln!(
+            out,
+            "{withdrawn:>12}  deques of a begun task withdrawn, {mugged} mugged, {robbed} robbed behind it"
+        )?;
         writeln!(
             out,
             "{:>12}  steal cycles in vain; with one task taken, two, three, or more: {:?}",

@@ -14,7 +14,7 @@ use crate::{Status, LINE_BUFFER};
 pub struct Counters {
     /// The job's status.
     pub status: Status,
-    /// Tasks worked.
+    /// Tasks worked: all their ticks are done.
     pub worked: u64,
     /// Tasks of the plan (N).
     pub tasks: u64,
@@ -22,7 +22,7 @@ pub struct Counters {
     pub desire: u64,
     /// Workers that the last accepted grant gave.
     pub allotment: u64,
-    /// Work cycles: a worker worked a task.
+    /// Work cycles: a worker did a tick of a task.
     pub work: u64,
     /// Mug cycles: a worker took over the deque of a withdrawn worker.
     pub mug: u64,

@@ -1,4 +1,4 @@
-//! What a job's memory holds, for consoles and tests: the deques, the worked tasks, the open quantum, the plan.
+//! What a job's memory holds, for consoles and tests: the deques, the worked tasks, the ticks left, the open quantum, the plan.
 //!
 //! This reads the memory in plain Rust, by the view of `crates/memory/specs/Jobs.antt`, over which the library's promises are
 //! stated. It is written after these definitions and not itself proved.
@@ -15,6 +15,22 @@
 //! assert_eq!(state.deques, [vec![1, 2]]);
 //! assert_eq!(state.open_ticks, Some(1));
 //! assert_eq!(state.plan.successors, [vec![1, 2], vec![3], vec![3], vec![]]);
+//! assert_eq!((state.plan.durations, state.left), (vec![1, 1, 1, 1], vec![0, 1, 1, 1]));
+//! # Ok::<(), jirvaldo::Refusal>(())
+//! ```
+//!
+//! A plan of form 2, one task of three ticks, after the first of them:
+//!
+//! ```
+//! use jirvaldo::{inspect::View, Job};
+//!
+//! let mut job = Job::accept(&[0x25, 0x40, 0x00, 0x08, 0x00, 0, 0, 0, 3])?;
+//! job.grant(1)?;
+//! job.tick(&[0])?;
+//! let view = View::of(&job);
+//! assert_eq!((view.duration(0), view.ticks_left(0)), (3, 2));
+//! assert!(!view.is_worked(0));
+//! assert_eq!(view.deque(0).collect::<Vec<_>>(), [0]);
 //! # Ok::<(), jirvaldo::Refusal>(())
 //! ```
 
@@ -23,11 +39,8 @@
 use crate::raw::Memory;
 use crate::{Job, MOST_WORKERS};
 
-/// What `pending` holds of a worked task.
-const WORKED: u16 = 3;
-
 /// A look into a job, which copies nothing. Tasks and workers are numbered from 0; of a number past the last nothing is shown: no
-/// successors, an empty deque, not worked.
+/// successors, no ticks, an empty deque, not worked.
 #[derive(Clone, Copy)]
 pub struct View<'a> {
     memory: &'a Memory,
@@ -74,19 +87,46 @@ impl<'a> View<'a> {
         let used = fields.into_iter().filter_map(move |field| field.get(task));
         used.copied().take_while(|&successor| successor != 0)
     }
+
+    /// The ticks that a task lasts, 1 to 255; 0 past the last task.
+    pub fn duration(self, task: usize) -> u8 {
+        self.span(task)[0]
+    }
+
+    /// Of each task, in number order: the ticks that it lasts.
+    pub fn durations(self) -> impl Iterator<Item = u8> + 'a {
+        (0..self.tasks()).map(move |task| self.duration(task))
+    }
+
+    /// A task's ticks, and those left: the high and the low byte of its span. 0 past the last task.
+    fn span(self, task: usize) -> [u8; 2] {
+        let span = self.memory.spans().get(task);
+        span.filter(|_| task < self.tasks())
+            .map_or([0; 2], |span| span.to_be_bytes())
+    }
 }
 
 /// The state.
 impl<'a> View<'a> {
-    /// Whether a task is worked.
+    /// Whether a task is worked: all its ticks are done.
     pub fn is_worked(self, task: usize) -> bool {
-        task < self.tasks() && self.memory.pending().get(task) == Some(&WORKED)
+        task < self.tasks() && self.ticks_left(task) == 0
     }
 
     /// Of each task, in number order: it is worked.
     pub fn worked(self) -> impl Iterator<Item = bool> + 'a {
-        let pending = self.memory.pending().iter().take(self.tasks());
-        pending.map(|&pending| pending == WORKED)
+        self.left().map(|left| left == 0)
+    }
+
+    /// The ticks of a task that are not done yet, 0 to 255; 0 past the last task. Only a task at the front of a deque has some done and some
+    /// left.
+    pub fn ticks_left(self, task: usize) -> u8 {
+        self.span(task)[1]
+    }
+
+    /// Of each task, in number order: its ticks that are not done yet.
+    pub fn left(self) -> impl Iterator<Item = u8> + 'a {
+        (0..self.tasks()).map(move |task| self.ticks_left(task))
     }
 
     /// The allotment: how many workers are granted.
@@ -177,6 +217,8 @@ pub struct Plan {
     pub quantum_length: u16,
     /// The successors of each task, in the order of the plan's fields.
     pub successors: Vec<Vec<u16>>,
+    /// The ticks that each task lasts, 1 to 255; each is 1 in a plan of form 1.
+    pub durations: Vec<u8>,
 }
 
 /// All that a job shows, copied out of it. Two jobs with equal states answer every later call alike.
@@ -186,6 +228,8 @@ pub struct State {
     pub plan: Plan,
     /// Of each task, in number order: it is worked.
     pub worked: Vec<bool>,
+    /// Of each task, in number order: its ticks that are not done yet.
+    pub left: Vec<u8>,
     /// The deques of the granted workers, each from its front to its back.
     pub deques: Vec<Vec<u16>>,
     /// The muggable deques, oldest first, in the order in which they are mugged.
@@ -222,6 +266,7 @@ impl Plan {
             utilization: view.utilization(),
             quantum_length: view.quantum_length(),
             successors: tasks.map(|task| view.successors(task).collect()).collect(),
+            durations: view.durations().collect(),
         }
     }
 }
@@ -234,6 +279,7 @@ impl State {
         State {
             plan: Plan::of(job),
             worked: view.worked().collect(),
+            left: view.left().collect(),
             deques: workers.map(|w| view.deque(w).collect()).collect(),
             muggable: ages.map(|a| view.muggable_deque(a).collect()).collect(),
             desire: view.desire(),

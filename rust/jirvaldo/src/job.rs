@@ -8,7 +8,7 @@ use crate::raw::Memory;
 use crate::refusal::{answer, refusal};
 use crate::{Counters, Line, Refusal, Status, LINE_BUFFER};
 
-/// A job: 8,848 bytes of plain data, without pointers. It comes from an accepted plan and is moved by [`grant`](Job::grant),
+/// A job: 10,896 bytes of plain data, without pointers. It comes from an accepted plan and is moved by [`grant`](Job::grant),
 /// [`tick`](Job::tick) and [`run_log`](Job::run_log); each call either is accepted whole or is refused by number and changes nothing.
 ///
 /// A clone is a job of its own: the two go on independently. A job is `Send` and `Sync` and the library keeps no state beside it, so
@@ -22,7 +22,7 @@ pub struct Job {
     memory: Memory,
 }
 
-const _: () = assert!(std::mem::size_of::<Job>() == 8848);
+const _: () = assert!(std::mem::size_of::<Job>() == 10_896);
 
 /// What a log did to a job.
 #[derive(Clone, Copy, Debug, PartialEq, Eq)]
@@ -36,10 +36,12 @@ pub struct LogRun {
 
 /// A plan becomes a job.
 impl Job {
-    /// The fresh job of a plan: it desires one worker and has none.
+    /// The fresh job of a plan: it desires one worker and has none. A task has three bytes in a plan of form 1, and lasts one tick; in form 2
+    /// it has a fourth one, its ticks, 1 to 255.
     ///
     /// # Errors
-    /// Refusals 1 to 10, [`Short`](Refusal::Short) to [`LooseEnd`](Refusal::LooseEnd), say what is wrong with the plan.
+    /// Refusals 1 to 10, [`Short`](Refusal::Short) to [`LooseEnd`](Refusal::LooseEnd), and 28, [`ZeroTicks`](Refusal::ZeroTicks), say what is
+    /// wrong with the plan. 7, 8 and 28 are asked of a task in this order, before the next task.
     ///
     /// ```
     /// use jirvaldo::{Job, Refusal, Status};
@@ -47,6 +49,10 @@ impl Job {
     /// let plan = [0x15, 0x40, 0x00, 0x08, 0x00, 0, 0, 0]; // one task
     /// assert_eq!(Job::accept(&plan)?.status(), Status::Fresh);
     /// assert_eq!(Job::accept(&plan[..7]).err(), Some(Refusal::WrongLength));
+    /// let mut plan = [0x25, 0x40, 0x00, 0x08, 0x00, 0, 0, 0, 3]; // one task of three ticks
+    /// assert_eq!(Job::accept(&plan)?.status(), Status::Fresh);
+    /// plan[8] = 0;
+    /// assert_eq!(Job::accept(&plan).err(), Some(Refusal::ZeroTicks));
     /// # Ok::<(), Refusal>(())
     /// ```
     #[inline]
@@ -60,7 +66,7 @@ impl Job {
     /// The job becomes the fresh job of another plan, in place.
     ///
     /// # Errors
-    /// Refusals 1 to 10, as for [`accept`](Job::accept). The job is then as it was.
+    /// Refusals 1 to 10 and 28, as for [`accept`](Job::accept). The job is then as it was.
     ///
     /// ```
     /// use jirvaldo::{Job, Refusal, Status};
@@ -107,6 +113,9 @@ impl Job {
 
     /// One tick: each granted worker takes a cycle, in number order. Choice i is the worker from whom worker i steals where it has nothing
     /// else to do; a choice is needed of every worker, read or not. After its L-th tick a quantum closes, and the desire moves.
+    ///
+    /// A worker that works does one tick of its deque's front task, which stays at the front until its last one; then the task is worked, and
+    /// those of its successors that became ready take its place. A deque that is withdrawn or mugged keeps the ticks that are done.
     ///
     /// A worker that steals gets the back half of the chosen deque, rounded down and in its order, if that has two or more tasks, and else
     /// nothing. It is one success, however many tasks it takes. A worker after the one that finished the job counts a steal, which gets
@@ -184,8 +193,8 @@ impl Job {
         self.counters(0).allotment
     }
 
-    /// The ten numbers of the counters line. The last is the argument: the job does not count its refused calls, a
-    /// [`LogRun`] or the caller does.
+    /// The ten numbers of the counters line: `worked` counts tasks whose ticks are all done, `work` the ticks that are done. The last is the
+    /// argument: the job does not count its refused calls, a [`LogRun`] or the caller does.
     #[inline]
     pub fn counters(&self, refused_calls: u64) -> Counters {
         Counters::of(self.memory.counters(refused_calls))
@@ -322,6 +331,8 @@ mod tests {
         let mut late = PLAN_A;
         late[13] = 1; // an unused field of task 2
         refused(&mut job, 7, |j| j.replace(&late));
+        let no_ticks = [0x25, 0x40, 0x00, 0x08, 0x00, 0, 0, 0, 0];
+        refused(&mut job, 28, |j| j.replace(&no_ticks));
         refused(&mut job, 1, |j| j.replace(&[0x15; 4]));
         Ok(())
     }

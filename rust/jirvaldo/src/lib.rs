@@ -2,7 +2,7 @@
 //!
 //! A plan is a task graph in bytes. [`Job::accept`] reads it and makes a [`Job`], or refuses it by number. Then by turns: a
 //! [grant](Job::grant) of at most as many workers as the job [desires](Job::desire), which opens a quantum, and [ticks](Job::tick) until it
-//! closes, L of them. The job is finished when every task is worked.
+//! closes, L of them. The job is finished when every task is worked. A task lasts one tick in a plan of form 1, 1 to 255 in one of form 2.
 //!
 //! ```
 //! use jirvaldo::{Job, Refusal};
@@ -21,6 +21,26 @@
 //! assert_eq!(&*job.line(0), "3 4 4 2 2 4 0 2 0 0");
 //! # Ok(())
 //! # }
+//! ```
+//!
+//! In form 2 a task has a fourth byte, its ticks. It stays at the front of its deque until they are done; then it is worked, and its
+//! successors come. A deque that is withdrawn or mugged keeps the ticks that are done.
+//!
+//! ```
+//! use jirvaldo::{Job, Refusal};
+//!
+//! // form 2, R = 2, D = 80, L = 2, N = 2; task 0 lasts three ticks and is followed by 1, which lasts one
+//! let mut job = Job::accept(&[0x25, 0x40, 0x00, 0x08, 0x01, 0x40, 0x08, 0x00, 3, 0, 0, 0, 1])?;
+//! job.grant(1)?;
+//! job.tick(&[0])?;
+//! job.tick(&[0])?;
+//! assert_eq!(&*job.line(0), "1 0 2 2 1 2 0 0 0 0"); // two work cycles, and no task is worked yet
+//! job.grant(1)?;
+//! job.tick(&[0])?;
+//! assert_eq!(&*job.line(0), "1 1 2 2 1 3 0 0 0 0");
+//! job.tick(&[0])?;
+//! assert!(job.is_finished());
+//! # Ok::<(), Refusal>(())
 //! ```
 //!
 //! # What is proved and what is not
@@ -52,8 +72,11 @@ pub use status::Status;
 /// The most tasks that a plan may have.
 pub const MOST_TASKS: usize = 1024;
 
-/// The size of the longest plan that is accepted: no plan with more bytes is.
-pub const LONGEST_PLAN: usize = 5 + 3 * MOST_TASKS;
+/// The size of the longest plan that is accepted: no plan with more bytes is. It is of form 2; the longest of form 1 has 3,077 bytes.
+pub const LONGEST_PLAN: usize = 5 + 4 * MOST_TASKS;
+
+/// The most ticks that a task lasts, in a plan of form 2. In form 1 each lasts one.
+pub const LONGEST_TASK: usize = 255;
 
 /// The most workers that a job ever desires.
 pub const MOST_WORKERS: usize = 64;

@@ -8,8 +8,8 @@ use crate::{MOST_TASKS, MOST_WORKERS};
 
 /// The fronts and sizes of the workers' deques and of as many muggable ones.
 const ENDS: usize = 4 * MOST_WORKERS;
-/// Four numbers of each task, and the deques' ends.
-const PARTS: usize = 4 * MOST_TASKS + ENDS;
+/// Five numbers of each task, and the deques' ends.
+const PARTS: usize = 5 * MOST_TASKS + ENDS;
 const WORDS: usize = 18;
 
 /// The memory of a job, laid out as in C: `include/jirvaldo.h` has the same parts in the same order.
@@ -186,12 +186,12 @@ impl Memory {
         self.of_each_task(2)
     }
 
-    pub(crate) fn pending(&self) -> &[u16] {
-        self.of_each_task(3)
+    pub(crate) fn ends(&self) -> &[u16] {
+        &self.parts[4 * MOST_TASKS..][..ENDS]
     }
 
-    pub(crate) fn ends(&self) -> &[u16] {
-        &self.parts[4 * MOST_TASKS..]
+    pub(crate) fn spans(&self) -> &[u16] {
+        &self.parts[4 * MOST_TASKS + ENDS..]
     }
 
     fn of_each_task(&self, part: usize) -> &[u16] {

@@ -8,8 +8,9 @@ use std::fmt;
 /// Why a call was refused. A refused call changes nothing; only a log that ends inside an entry ([`BrokenEntry`](Refusal::BrokenEntry)) has
 /// done the entries before it.
 ///
-/// Questions are asked in the order of the numbers, and the first one answered with no is the refusal. Numbers 21 and 22 belong to the
-/// program `replay` (its input has more than 65,536 bytes; its input ends before the plan does), so no function here returns them.
+/// Questions are asked in the order of the numbers, and the first one answered with no is the refusal; 28 alone is asked after 8 of the same
+/// task, before 7 of the next one. Numbers 21 and 22 belong to the program `replay` (its input has more than 65,536 bytes; its input ends
+/// before the plan does), so no function here returns them.
 ///
 /// `Display` is one sentence for a maker, without the number.
 ///
@@ -26,7 +27,7 @@ use std::fmt;
 pub enum Refusal {
     /// 1: the plan has fewer than 5 bytes.
     Short = 1,
-    /// 2: the plan's form is not 1.
+    /// 2: the plan's form is neither 1 nor 2.
     UnknownForm = 2,
     /// 3: the plan's R, the responsiveness, is below 2.
     LowResponsiveness = 3,
@@ -34,7 +35,7 @@ pub enum Refusal {
     BadUtilization = 4,
     /// 5: the plan's L, the quantum length, is 0.
     ZeroQuantumLength = 5,
-    /// 6: the plan's length is not 5 + 3 × N bytes.
+    /// 6: the plan's length is not 5 + 3 × N bytes, or in form 2 not 5 + 4 × N.
     WrongLength = 6,
     /// 7: a task's successor count is 3, or one of its unused successor fields is not 0.
     BadFields = 7,
@@ -64,13 +65,15 @@ pub enum Refusal {
     NoWording = 19,
     /// 20: a buffer for the counters line has fewer than 128 bytes.
     SmallBuffer = 20,
+    /// 28: a task's ticks are 0, in a plan of form 2.
+    ZeroTicks = 28,
 }
 
 use Refusal::*;
 
 impl Refusal {
-    /// Every refusal, in the order of the numbers 1 to 20.
-    pub const ALL: [Refusal; 20] = [
+    /// Every refusal, in the order of the numbers, 1 to 20 and 28.
+    pub const ALL: [Refusal; 21] = [
         Short,
         UnknownForm,
         LowResponsiveness,
@@ -91,9 +94,10 @@ impl Refusal {
         BrokenEntry,
         NoWording,
         SmallBuffer,
+        ZeroTicks,
     ];
 
-    /// The refusal's number, 1 to 20.
+    /// The refusal's number, 1 to 20 or 28.
     pub const fn number(self) -> u8 {
         self as u8
     }
@@ -101,14 +105,14 @@ impl Refusal {
     const fn sentence(self) -> &'static str {
         match self {
             Short => "the plan has fewer than 5 bytes, so its header is not whole",
-            UnknownForm => "the plan's form is not 1, the only form there is",
+            UnknownForm => "the plan's form is neither 1 nor 2",
             LowResponsiveness => "the plan's R, the responsiveness, is below 2",
             BadUtilization => "the plan's D, the utilization in percent, is not from 1 to 100",
             ZeroQuantumLength => {
                 "the plan's L, the quantum length, is 0; a quantum has at least one tick"
             }
             WrongLength => {
-                "the plan is not 5 + 3 * N bytes long for the N tasks that its header names"
+                "the plan is not 5 + 3 * N bytes long in form 1, or 5 + 4 * N in form 2, for its header's N tasks"
             }
             BadFields => {
                 "a task's successor count is 3, or one of its unused successor fields is not 0"
@@ -130,6 +134,7 @@ impl Refusal {
             BrokenEntry => "the log ends inside an entry; the entries before it are done",
             NoWording => "the sheet has no line for the job's status; byte 10 ends a line",
             SmallBuffer => "the buffer for the counters line has fewer than 128 bytes",
+            ZeroTicks => "a task's ticks are 0; a task lasts at least one tick",
         }
     }
 }
@@ -148,7 +153,11 @@ pub struct UnknownNumber(pub u8);
 
 impl fmt::Display for UnknownNumber {
     fn fmt(&self, out: &mut fmt::Formatter<'_>) -> fmt::Result {
-        write!(out, "{} is not the number of a refusal, 1 to 20", self.0)
+        write!(
+            out,
+            "{} is not the number of a refusal, 1 to 20 or 28",
+            self.0
+        )
     }
 }
 
@@ -157,11 +166,11 @@ impl Error for UnknownNumber {}
 impl TryFrom<u8> for Refusal {
     type Error = UnknownNumber;
 
-    /// The refusal of a number from 1 to 20; every other number is handed back.
+    /// The refusal of a number from 1 to 20, or of 28; every other number is handed back.
     fn try_from(number: u8) -> Result<Refusal, UnknownNumber> {
-        let place = usize::from(number).checked_sub(1);
-        let refusal = place.and_then(|place| Refusal::ALL.get(place));
-        refusal.copied().ok_or(UnknownNumber(number))
+        let mut all = Refusal::ALL.into_iter();
+        all.find(|refusal| refusal.number() == number)
+            .ok_or(UnknownNumber(number))
     }
 }
 
@@ -174,7 +183,7 @@ pub(crate) fn answer(number: u8) -> Result<(), Refusal> {
     }
 }
 
-/// The refusal that stands for a number of the library, which is from 1 to 20: the library hands out no others.
+/// The refusal that stands for a number of the library, which is from 1 to 20 or 28: the library hands out no others.
 #[cold]
 pub(crate) fn refusal(number: u8) -> Refusal {
     Refusal::try_from(number).expect("the archive is this version's")

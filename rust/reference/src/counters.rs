@@ -50,7 +50,7 @@ impl DigitCount {
 pub fn ten_numbers(job: &Job, refused: u64) -> [u64; 10] {
     [
         u64::from(job.status().number()),
-        job.worked_count() as u64,
+        job.worked_count(),
         job.plan().task_count() as u64,
         job.desire() as u64,
         job.allotment() as u64,

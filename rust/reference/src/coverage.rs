@@ -3,17 +3,31 @@
 use std::fmt;
 
 use crate::counters::counters_line;
+use crate::form::{self, FORMS};
 use crate::generator::Case;
 use crate::job::{Cycle, GrantReport, Job, TickReport};
 use crate::label::wording;
+use crate::lasting::Tick;
 use crate::log::{run_log_with, Report};
+use crate::plan::{read_plan, read_plan_with, Plan};
 use crate::program::split_input;
 use crate::quantum::{QuantumEnd, MOST_WORKERS};
 use crate::refusal::Refusal;
 
-/// The branches of grant, tick and quantum's end.
+/// The branches of plan, grant, tick and quantum's end.
 #[derive(Clone, Copy, Debug, PartialEq, Eq)]
 pub enum Branch {
+    PlanFormOne,
+    PlanFormTwo,
+    PlanMixed,
+    PlanLongest,
+    PlanFormZero,
+    PlanFormThree,
+    PlanFormFifteen,
+    PlanOtherBody,
+    PlanZeroFirst,
+    PlanZeroBetween,
+    PlanZeroLast,
     GrantZero,
     GrantFirst,
     GrantFirstAfterZero,
@@ -23,15 +37,22 @@ pub enum Branch {
     GrantShrinkNonempty,
     GrantShrinkMany,
     GrantShrinkBehind,
+    GrantShrinkBegun,
     WorkNoneReady,
     WorkOneReady,
     WorkTwoReady,
+    WorkBegins,
+    WorkGoesOn,
+    WorkEnds,
+    WorkEndsLongest,
     MugOne,
     MugMany,
+    MugBegun,
     StealOneOfTwo,
     StealOneOfThree,
     StealMoreEven,
     StealMoreOdd,
+    StealBehindBegun,
     StealVainOther,
     StealVainSelf,
     FinishAlone,
@@ -40,18 +61,34 @@ pub enum Branch {
     FinishFirst,
     FinishAtLastTick,
     FinishAtLastTickCharged,
+    FinishLasting,
     EndInefficient,
     EndInefficientDeprived,
     EndGrown,
     EndAtCap,
     EndDeprived,
     EndOfZero,
+    EndBegun,
 }
 
 use Branch::*;
 
 /// Every branch with what it is.
-pub const BRANCHES: [(Branch, &str); 32] = [
+pub const BRANCHES: [(Branch, &str); 52] = [
+    (PlanFormOne, "plan: of form 1"),
+    (PlanFormTwo, "plan: of form 2"),
+    (PlanMixed, "plan: tasks of one tick and of several"),
+    (PlanLongest, "plan: a task of 255 ticks"),
+    (PlanFormZero, "plan: refused with 2, form 0"),
+    (PlanFormThree, "plan: refused with 2, form 3"),
+    (PlanFormFifteen, "plan: refused with 2, form 15"),
+    (
+        PlanOtherBody,
+        "plan: refused with 6, the other form's length",
+    ),
+    (PlanZeroFirst, "plan: refused with 28, the first task"),
+    (PlanZeroBetween, "plan: refused with 28, a task between"),
+    (PlanZeroLast, "plan: refused with 28, the last task"),
     (GrantZero, "grant: of 0"),
     (GrantFirst, "grant: the first above 0"),
     (
@@ -67,15 +104,28 @@ pub const BRANCHES: [(Branch, &str); 32] = [
         GrantShrinkBehind,
         "grant: two or more become muggable, and others wait",
     ),
+    (
+        GrantShrinkBegun,
+        "grant: a begun task's deque becomes muggable",
+    ),
     (WorkNoneReady, "tick: work, no successor ready"),
     (WorkOneReady, "tick: work, one successor ready"),
     (WorkTwoReady, "tick: work, two successors ready"),
+    (WorkBegins, "tick: work, the first of several ticks"),
+    (
+        WorkGoesOn,
+        "tick: work, neither the first tick nor the last",
+    ),
+    (WorkEnds, "tick: work, the last of several ticks"),
+    (WorkEndsLongest, "tick: work, the last of 255 ticks"),
     (MugOne, "tick: mug of one task"),
     (MugMany, "tick: mug of two or more tasks"),
+    (MugBegun, "tick: mug of a begun task's deque"),
     (StealOneOfTwo, "tick: steal of one task out of two"),
     (StealOneOfThree, "tick: steal of one task out of three"),
     (StealMoreEven, "tick: steal of two or more, as many left"),
     (StealMoreOdd, "tick: steal of two or more, one more left"),
+    (StealBehindBegun, "tick: steal behind a begun task"),
     (StealVainOther, "tick: steal in vain from another"),
     (StealVainSelf, "tick: steal in vain from itself"),
     (FinishAlone, "tick: finish, one worker granted"),
@@ -87,12 +137,14 @@ pub const BRANCHES: [(Branch, &str); 32] = [
         FinishAtLastTickCharged,
         "tick: finish in a quantum's last tick, later workers charged",
     ),
+    (FinishLasting, "tick: finish with the last of several ticks"),
     (EndInefficient, "end: inefficient, satisfied"),
     (EndInefficientDeprived, "end: inefficient, deprived"),
     (EndGrown, "end: efficient, satisfied, desire grows"),
     (EndAtCap, "end: efficient, satisfied, desire at its top"),
     (EndDeprived, "end: efficient, deprived"),
     (EndOfZero, "end: of a quantum of 0 workers"),
+    (EndBegun, "end: of a quantum with a task begun"),
 ];
 
 /// How often each thing was reached.
@@ -102,6 +154,7 @@ pub struct Coverage {
     calls: u64,
     refusals: [u64; Refusal::ALL.len()],
     branches: [u64; BRANCHES.len()],
+    readings: [u64; form::BENT.len()],
     statuses: [u64; 4],
     responsiveness: [u64; 8],
     allotments: [u64; MOST_WORKERS + 1],
@@ -114,11 +167,17 @@ impl Default for Coverage {
             calls: 0,
             refusals: [0; Refusal::ALL.len()],
             branches: [0; BRANCHES.len()],
+            readings: [0; form::BENT.len()],
             statuses: [0; 4],
             responsiveness: [0; 8],
             allotments: [0; MOST_WORKERS + 1],
         }
     }
+}
+
+/// The place of a refusal among all of them.
+fn place_of(refusal: Refusal) -> Option<usize> {
+    Refusal::ALL.iter().position(|&other| other == refusal)
 }
 
 /// Adds one at a place, if it is there.
@@ -131,13 +190,18 @@ fn add(counts: &mut [u64], place: usize) {
 impl Coverage {
     /// How often a refusal was reached.
     pub fn refusal(&self, refusal: Refusal) -> u64 {
-        let place = usize::from(refusal.number()) - 1;
-        self.refusals.get(place).copied().unwrap_or(0)
+        let count = place_of(refusal).and_then(|place| self.refusals.get(place));
+        count.copied().unwrap_or(0)
     }
 
     /// How often a branch was reached.
     pub fn branch(&self, branch: Branch) -> u64 {
         self.branches.get(branch as usize).copied().unwrap_or(0)
+    }
+
+    /// How many plans each bent reading takes otherwise.
+    pub fn readings(&self) -> &[u64] {
+        &self.readings
     }
 
     /// How often each responsiveness from 0 to 7 was accepted.
@@ -156,6 +220,7 @@ impl Coverage {
         if let Err(refusal) = split_input(&case.input) {
             self.refuse(refusal);
         }
+        self.cover_plan(&case.plan);
         match Job::accept(&case.plan) {
             Ok(job) => self.cover_log(job, case),
             Err(refusal) => self.refuse(refusal),
@@ -165,6 +230,9 @@ impl Coverage {
     /// Runs an input as the program does and counts.
     pub fn cover_input(&mut self, input: &[u8]) {
         self.cases += 1;
+        if let Ok((plan, _)) = split_input(input) {
+            self.cover_plan(plan);
+        }
         let accepted = split_input(input).and_then(|(plan, log)| Ok((Job::accept(plan)?, log)));
         match accepted {
             Ok((mut job, log)) => {
@@ -200,13 +268,57 @@ impl Coverage {
     }
 
     fn refuse(&mut self, refusal: Refusal) {
-        add(&mut self.refusals, usize::from(refusal.number()) - 1);
+        if let Some(place) = place_of(refusal) {
+            add(&mut self.refusals, place);
+        }
     }
 
     fn reach(&mut self, branch: Branch, reached: bool) {
         if reached {
             add(&mut self.branches, branch as usize);
         }
+    }
+
+    /// Counts what a plan is, and which bent readings take it otherwise.
+    fn cover_plan(&mut self, bytes: &[u8]) {
+        let form = bytes.first().map_or(0, |byte| byte >> 4);
+        let read = read_plan(bytes);
+        match &read {
+            Ok(plan) => self.cover_accepted(form, plan),
+            Err(Refusal::FormUnknown) => {
+                self.reach(PlanFormZero, form == 0);
+                self.reach(PlanFormThree, form == 3);
+                self.reach(PlanFormFifteen, form == 15);
+            }
+            Err(Refusal::PlanLengthWrong) => {
+                self.reach(PlanOtherBody, has_other_length(form, bytes));
+            }
+            Err(Refusal::TicksZero) => self.cover_zero(bytes),
+            Err(_) => (),
+        }
+        for (place, &(reading, _)) in form::BENT.iter().enumerate() {
+            if read_plan_with(bytes, reading) != read {
+                add(&mut self.readings, place);
+            }
+        }
+    }
+
+    fn cover_accepted(&mut self, form: u8, plan: &Plan) {
+        let has = |wanted: fn(u8) -> bool| plan.tasks().iter().any(|task| wanted(task.ticks()));
+        self.reach(PlanFormOne, form == 1);
+        self.reach(PlanFormTwo, form == 2);
+        self.reach(PlanMixed, has(|ticks| ticks == 1) && has(|ticks| ticks > 1));
+        self.reach(PlanLongest, has(|ticks| ticks == 255));
+    }
+
+    /// Counts which task of a plan that is refused with 28 has no ticks.
+    fn cover_zero(&mut self, bytes: &[u8]) {
+        let mut ticks = bytes[5..].chunks(4).map(|task| task[3]);
+        let (count, zero) = (ticks.len(), ticks.position(|ticks| ticks == 0));
+        self.reach(PlanZeroFirst, zero == Some(0) && count > 1);
+        self.reach(PlanZeroLast, zero == Some(count - 1) && count > 1);
+        let between = |place: usize| 0 < place && place + 1 < count;
+        self.reach(PlanZeroBetween, zero.map_or(false, between));
     }
 
     fn cover_grant(&mut self, job: &Job, report: &GrantReport) {
@@ -223,17 +335,32 @@ impl Coverage {
         self.reach(GrantShrinkNonempty, report.made_muggable > 0);
         self.reach(GrantShrinkMany, many);
         self.reach(GrantShrinkBehind, many && report.waited > 0);
+        self.reach(GrantShrinkBegun, report.begun > 0);
     }
 
     fn cover_tick(&mut self, job: &Job, report: &TickReport) {
         for (worker, cycle) in report.cycles.iter().enumerate() {
             self.reach(cycle_branch(worker, cycle), true);
+            self.cover_lasting(job, cycle);
         }
         if job.is_finished() {
             self.cover_finish(job, report);
         }
         if let Some(end) = report.quantum_end {
             self.cover_end(job, end);
+        }
+    }
+
+    /// What a cycle has to do with tasks of several ticks.
+    fn cover_lasting(&mut self, job: &Job, cycle: &Cycle) {
+        match *cycle {
+            Cycle::Work { task, tick, .. } => {
+                let ticks = job.plan().tasks()[usize::from(task)].ticks();
+                self.reach(WorkEnds, tick.is_last && ticks > 1);
+                self.reach(WorkEndsLongest, tick.is_last && ticks == 255);
+            }
+            Cycle::Mug { begun, .. } => self.reach(MugBegun, begun),
+            Cycle::Steal { begun, .. } => self.reach(StealBehindBegun, begun),
         }
     }
 
@@ -247,6 +374,8 @@ impl Coverage {
         self.reach(FinishFirst, granted > 2 && report.cycles.len() == 1);
         self.reach(FinishAtLastTick, last_tick);
         self.reach(FinishAtLastTickCharged, last_tick && charged);
+        let finisher = job.plan().tasks().last();
+        self.reach(FinishLasting, finisher.map(|task| task.ticks()) > Some(1));
     }
 
     fn cover_end(&mut self, job: &Job, end: QuantumEnd) {
@@ -259,16 +388,38 @@ impl Coverage {
         };
         self.reach(branch, true);
         self.reach(EndOfZero, job.allotment() == 0);
+        let mut tasks = job.deques().iter().filter_map(|deque| deque.front());
+        self.reach(EndBegun, tasks.any(|&task| job.is_begun(task)));
     }
+}
+
+/// Whether a plan of a form has as many bytes as one of another form has.
+fn has_other_length(form: u8, bytes: &[u8]) -> bool {
+    let count = usize::from(bytes[3] & 3) << 8 | usize::from(bytes[4]);
+    let others = FORMS.iter().filter(|other| other.number != u64::from(form));
+    let mut lengths = others.map(|other| 5 + other.task_bytes * (count + 1));
+    lengths.any(|length| length == bytes.len())
 }
 
 /// The branch of one worker's cycle.
 fn cycle_branch(worker: usize, cycle: &Cycle) -> Branch {
     match *cycle {
+        Cycle::Work {
+            tick:
+                Tick {
+                    is_first: true,
+                    is_last: false,
+                },
+            ..
+        } => WorkBegins,
+        Cycle::Work {
+            tick: Tick { is_last: false, .. },
+            ..
+        } => WorkGoesOn,
         Cycle::Work { enabled: 0, .. } => WorkNoneReady,
         Cycle::Work { enabled: 1, .. } => WorkOneReady,
         Cycle::Work { .. } => WorkTwoReady,
-        Cycle::Mug { length: 1 } => MugOne,
+        Cycle::Mug { length: 1, .. } => MugOne,
         Cycle::Mug { .. } => MugMany,
         Cycle::Steal {
             victim, stolen: 0, ..
@@ -293,6 +444,12 @@ impl fmt::Display for Coverage {
         for (branch, name) in BRANCHES {
             writeln!(out, "{:>10}  {name}", self.branch(branch))?;
         }
+        for ((_, name), count) in form::BENT.iter().zip(self.readings) {
+            writeln!(
+                out,
+                "{count:>10}  plans that a bent rule reads otherwise: {name}"
+            )?;
+        }
         for (status, count) in self.statuses.iter().enumerate() {
             writeln!(out, "{count:>10}  jobs left with status {status}")?;
         }
@@ -307,9 +464,10 @@ impl fmt::Display for Coverage {
 }
 
 impl Coverage {
-    /// How many refusals and branches were never reached.
+    /// How many refusals, branches and bent readings were never reached.
     pub fn missing(&self) -> usize {
         let counts = self.refusals.iter().chain(&self.branches);
+        let counts = counts.chain(&self.readings);
         counts.filter(|&&count| count == 0).count()
     }
 }

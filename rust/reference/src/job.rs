@@ -4,7 +4,9 @@ use std::collections::VecDeque;
 use std::sync::Arc;
 
 use crate::counters::DigitCount;
-use crate::plan::{read_plan, Plan};
+use crate::form::Reading;
+use crate::lasting::{Event, Lasting, Tick};
+use crate::plan::{read_plan_with, Plan};
 use crate::quantum::{classify, is_efficient, next_desire, QuantumEnd};
 use crate::refusal::{ask, Refusal};
 use crate::rest::Rest;
@@ -19,6 +21,8 @@ pub const MOST_QUANTA: u32 = 4_096;
 /// follows others. The default ones are document 01's with its requests.
 #[derive(Clone, Copy, Debug, PartialEq, Eq)]
 pub struct Rules {
+    /// How plans are read.
+    pub reading: Reading,
     /// No more quanta than this begin.
     pub most_quanta: u32,
     /// How the digits of the counters line's numbers are counted.
@@ -29,16 +33,20 @@ pub struct Rules {
     pub turn: Turn,
     /// What the workers after the finisher count.
     pub rest: Rest,
+    /// How long a task stays.
+    pub lasting: Lasting,
 }
 
 impl Default for Rules {
     fn default() -> Rules {
         Rules {
+            reading: Reading::default(),
             most_quanta: MOST_QUANTA,
             digits: DigitCount::default(),
             theft: Theft::default(),
             turn: Turn::default(),
             rest: Rest::default(),
+            lasting: Lasting::default(),
         }
     }
 }
@@ -56,7 +64,7 @@ pub enum Status {
     Running = 1,
     /// The last allotment is 0 (document 01: held).
     Held = 2,
-    /// Every task is worked.
+    /// Every task is worked: completed, in the words of request U9.
     Finished = 3,
 }
 
@@ -84,8 +92,8 @@ pub struct OpenQuantum {
 #[derive(Clone, Debug, PartialEq, Eq)]
 pub struct Job {
     plan: Arc<Plan>,
-    worked: Vec<bool>,
-    worked_count: usize,
+    left: Vec<u8>,
+    completed: usize,
     deques: Vec<Deque>,
     muggable: VecDeque<Withdrawn>,
     desire: usize,
@@ -108,6 +116,8 @@ pub struct GrantReport {
     pub waited: usize,
     /// Withdrawn workers whose deque became muggable.
     pub made_muggable: usize,
+    /// Those of them whose front task is begun.
+    pub begun: usize,
     /// Withdrawn workers whose deque was empty and vanished.
     pub vanished: usize,
     /// Whether this was the first grant above 0, which hands out task 0.
@@ -117,17 +127,24 @@ pub struct GrantReport {
 /// One worker's cycle in a tick.
 #[derive(Clone, Copy, Debug, PartialEq, Eq)]
 pub enum Cycle {
-    /// A work cycle (document 01: work tick) on `task`; that many of its
-    /// successors became ready.
-    Work { task: u16, enabled: usize },
-    /// A mug cycle (document 01: mug tick) that took a deque of this length.
-    Mug { length: usize },
+    /// A work cycle (document 01: work tick) on `task`, at this place among its
+    /// ticks; that many of its successors became ready.
+    Work {
+        task: u16,
+        tick: Tick,
+        enabled: usize,
+    },
+    /// A mug cycle (document 01: mug tick) that took a deque of this length;
+    /// its front task is begun or not.
+    Mug { length: usize, begun: bool },
     /// A steal cycle (document 01: steal tick): so many tasks were stolen and
-    /// so many left to the victim. In vain if none was stolen.
+    /// so many left to the victim, whose front task is begun or not. In vain if
+    /// none was stolen.
     Steal {
         victim: usize,
         stolen: u16,
         left: u16,
+        begun: bool,
     },
 }
 
@@ -146,17 +163,23 @@ pub struct TickReport {
 
 /// Acceptance and what a job shows.
 impl Job {
-    /// Reads a plan and makes its fresh job; refusals 1 to 10 make none.
+    /// Reads a plan and makes its fresh job; refusals 1 to 10 and 28 make none.
     pub fn accept(plan: &[u8]) -> Result<Job, Refusal> {
-        read_plan(plan).map(Job::new)
+        Job::accept_with(plan, Rules::default())
+    }
+
+    /// The same by these rules.
+    pub fn accept_with(plan: &[u8], rules: Rules) -> Result<Job, Refusal> {
+        let plan = read_plan_with(plan, rules.reading)?;
+        Ok(Job::new(plan).with_rules(rules))
     }
 
     /// A fresh job: desire 1, nothing granted.
     pub fn new(plan: Plan) -> Job {
         Job {
-            worked: vec![false; plan.task_count()],
+            left: plan.tasks().iter().map(|task| task.ticks()).collect(),
             plan: Arc::new(plan),
-            worked_count: 0,
+            completed: 0,
             deques: Vec::new(),
             muggable: VecDeque::new(),
             desire: 1,
@@ -186,14 +209,31 @@ impl Job {
         &self.plan
     }
 
-    /// Which tasks (document 01: pieces) are worked, by number.
-    pub fn worked(&self) -> &[bool] {
-        &self.worked
+    /// The ticks left of each task (document 01: piece), by number.
+    pub fn left(&self) -> &[u8] {
+        &self.left
+    }
+
+    /// Which tasks are worked, by number: no ticks are left of them.
+    pub fn worked(&self) -> impl Iterator<Item = bool> + '_ {
+        self.left.iter().map(|&left| left == 0)
     }
 
     /// How many tasks are worked.
-    pub fn worked_count(&self) -> usize {
-        self.worked_count
+    pub fn worked_count(&self) -> u64 {
+        let lasting = self.rules.lasting;
+        lasting.worked(self.completed, self.work_cycles)
+    }
+
+    /// Whether a task is begun: some of its ticks are done, and not all.
+    pub fn is_begun(&self, task: u16) -> bool {
+        let left = self.left[usize::from(task)];
+        0 < left && left < self.ticks_of(task)
+    }
+
+    /// The ticks that a task lasts.
+    fn ticks_of(&self, task: u16) -> u8 {
+        self.plan.tasks()[usize::from(task)].ticks()
     }
 
     /// The deques (document 01: lines) of workers 0 up, each front to back.
@@ -255,7 +295,7 @@ impl Job {
 
     /// Whether every task is worked.
     pub fn is_finished(&self) -> bool {
-        self.worked_count == self.plan.task_count()
+        self.completed == self.plan.task_count()
     }
 
     /// The status, asked in the order 3, 0, 2, 1.
@@ -306,15 +346,18 @@ impl Job {
             added: allotment.saturating_sub(self.deques.len()),
             waited: self.muggable.len(),
             made_muggable: 0,
+            begun: 0,
             vanished: 0,
             first_above_zero: false,
         };
         let kept = allotment.min(self.deques.len());
-        for (worker, deque) in (kept..).zip(self.deques.drain(kept..)) {
+        for (worker, deque) in (kept..).zip(self.deques.split_off(kept)) {
             if deque.is_empty() {
                 report.vanished += 1;
             } else {
+                let begun = self.befalls(Event::Withdrawn, &deque);
                 report.made_muggable += 1;
+                report.begun += usize::from(begun);
                 self.muggable.push_back(Withdrawn {
                     grant: self.quanta_begun,
                     worker,
@@ -371,23 +414,47 @@ impl Job {
     /// One worker's cycle: work, else mug, else steal.
     fn cycle(&mut self, worker: usize, choice: usize) -> Cycle {
         if let Some(task) = self.deques[worker].pop_front() {
-            let enabled = self.work(worker, task);
-            Cycle::Work { task, enabled }
+            self.work(worker, task)
         } else if let Some(oldest) = self.muggable.pop_front() {
             let length = oldest.deque.len();
+            let begun = self.befalls(Event::Mugged, &oldest.deque);
             self.deques[worker] = oldest.deque;
-            Cycle::Mug { length }
+            Cycle::Mug { length, begun }
         } else {
             self.steal(worker, choice)
         }
     }
 
-    /// Works a task that has just left the front of the worker's deque. Of
-    /// its successors that became ready the second goes to the front, then
-    /// the first before it. Returns how many became ready.
-    fn work(&mut self, worker: usize, task: u16) -> usize {
-        self.worked[usize::from(task)] = true;
-        self.worked_count += 1;
+    /// Works one tick of a task that has just left the front of the worker's
+    /// deque. With ticks left it goes back there; after its last tick it stays
+    /// away and its successors come.
+    fn work(&mut self, worker: usize, task: u16) -> Cycle {
+        let (lasting, left) = (self.rules.lasting, self.left[usize::from(task)] - 1);
+        let tick = Tick {
+            is_first: left + 1 == self.ticks_of(task),
+            is_last: left == 0,
+        };
+        self.left[usize::from(task)] = left;
+        self.completed += usize::from(lasting.completes(tick));
+        let mut enabled = 0;
+        if lasting.enables(tick) {
+            enabled = self.enable(worker, task);
+        }
+        if !tick.is_last && lasting.stays() {
+            self.deques[worker].push_front(task);
+        } else if !tick.is_last {
+            self.deques[worker].push_back(task);
+        }
+        Cycle::Work {
+            task,
+            tick,
+            enabled,
+        }
+    }
+
+    /// Of a task's successors that became ready the second goes to the front,
+    /// then the first before it. Returns how many became ready.
+    fn enable(&mut self, worker: usize, task: u16) -> usize {
         let tasks = self.plan.tasks();
         let mut enabled = 0;
         for &successor in tasks[usize::from(task)].successors().iter().rev() {
@@ -402,14 +469,35 @@ impl Job {
     /// Ready: every predecessor is worked.
     fn is_ready(&self, task: u16) -> bool {
         let predecessors = self.plan.tasks()[usize::from(task)].predecessors();
-        predecessors.iter().all(|&p| self.worked[usize::from(p)])
+        let (lasting, left) = (self.rules.lasting, &self.left);
+        let done = |&p: &u16| lasting.enabled_by(left[usize::from(p)], self.ticks_of(p));
+        predecessors.iter().all(done)
+    }
+
+    /// Something befalls a deque. Returns whether its front task was begun,
+    /// which keeps its ticks.
+    fn befalls(&mut self, event: Event, deque: &Deque) -> bool {
+        let begun = deque.front().copied().filter(|&task| self.is_begun(task));
+        if let (Some(task), false) = (begun, self.rules.lasting.keeps(event)) {
+            self.left[usize::from(task)] = self.ticks_of(task);
+        }
+        begun.is_some()
     }
 
     /// What is taken from the victim becomes the thief's deque. That is empty
     /// before, so choosing itself is in vain.
     fn steal(&mut self, thief: usize, victim: usize) -> Cycle {
-        let taken = self.rules.theft.take(&mut self.deques[victim]);
-        let (stolen, left) = (taken.len() as u16, self.deques[victim].len() as u16);
+        let mut robbed = std::mem::take(&mut self.deques[victim]);
+        let mut taken = self.rules.theft.take(&mut robbed);
+        let (stolen, left) = (taken.len() as u16, robbed.len() as u16);
+        let begun = stolen > 0 && self.befalls(Event::Robbed, &robbed);
+        if begun && self.rules.lasting.is_taken_along() {
+            robbed
+                .pop_front()
+                .into_iter()
+                .for_each(|task| taken.push_front(task));
+        }
+        self.deques[victim] = robbed;
         if stolen > 0 {
             self.deques[thief] = taken;
         }
@@ -417,6 +505,7 @@ impl Job {
             victim,
             stolen,
             left,
+            begun,
         }
     }
 
@@ -424,9 +513,9 @@ impl Job {
     /// and mug cycles are usage, steal cycles are not.
     fn count(&mut self, cycle: &Cycle) -> u64 {
         match cycle {
-            Cycle::Work { .. } => {
-                self.work_cycles += 1;
-                1
+            Cycle::Work { tick, .. } => {
+                self.work_cycles += self.rules.lasting.work(*tick);
+                self.rules.lasting.usage(*tick)
             }
             Cycle::Mug { .. } => {
                 self.mug_cycles += 1;

@@ -3,7 +3,8 @@
 //! It shares no code with the proved implementation and is there to be
 //! compared with it.
 //!
-//! Reading order, which is document 01's: [`plan`], [`job`] (grant and tick),
+//! Reading order, which is document 01's: [`plan`], [`form`] (the forms of
+//! plans), [`job`] (grant and tick), [`lasting`] (how long a piece stays),
 //! [`withdrawal`] (which orphan is taken first), [`theft`] (what a steal
 //! takes), [`rest`] (what the workers after the finisher count), [`quantum`]
 //! (round's end), [`log`], [`label`], [`counters`], [`program`].
@@ -16,9 +17,11 @@
 
 pub mod counters;
 pub mod coverage;
+pub mod form;
 pub mod generator;
 pub mod job;
 pub mod label;
+pub mod lasting;
 pub mod log;
 pub mod plan;
 pub mod program;
@@ -30,11 +33,13 @@ pub mod theft;
 pub mod withdrawal;
 
 pub use counters::{counters_line, counters_text, line_size, ten_numbers, DigitCount};
+pub use form::{Asked, Reading, Ticks};
 pub use job::{Cycle, GrantReport, Job, OpenQuantum, Rules, Status, TickReport, MOST_QUANTA};
 pub use label::wording;
+pub use lasting::{Lasting, Tick};
 pub use log::{run_log, run_log_with, Entries, Entry, LogOutcome, Report};
-pub use plan::{read_plan, Plan, Task};
-pub use program::{program_output, split_input};
+pub use plan::{read_plan, read_plan_with, Plan, Task};
+pub use program::{program_output, program_output_with, split_input};
 pub use quantum::{is_efficient, next_desire, QuantumEnd};
 pub use refusal::Refusal;
 pub use rest::{Charge, Rest};

@@ -1,15 +1,16 @@
-//! "The plan's bits" and the questions 1 to 10.
+//! "The plan's bits" and the questions 1 to 10, with 28 of request U9.
 
+use crate::form::{Asked, Reading, TaskBits};
 use crate::refusal::{ask, Refusal};
 
 const HEADER_BYTES: usize = 5;
-const TASK_BYTES: usize = 3;
 
 /// One task (document 01: piece).
 #[derive(Clone, Debug, PartialEq, Eq)]
 pub struct Task {
     successors: Vec<u16>,
     predecessors: Vec<u16>,
+    ticks: u8,
 }
 
 impl Task {
@@ -21,6 +22,11 @@ impl Task {
     /// The predecessors (document 01: pieces before), in rising order.
     pub fn predecessors(&self) -> &[u16] {
         &self.predecessors
+    }
+
+    /// The ticks that it lasts, 1 to 255; in a plan of form 1 it is one.
+    pub fn ticks(&self) -> u8 {
+        self.ticks
     }
 }
 
@@ -71,33 +77,52 @@ struct Header {
 
 /// Reads plan bytes: the plan, or the first question answered with no.
 pub fn read_plan(bytes: &[u8]) -> Result<Plan, Refusal> {
+    read_plan_with(bytes, Reading::default())
+}
+
+/// Like [`read_plan`], by a rule that may be bent.
+pub fn read_plan_with(bytes: &[u8], reading: Reading) -> Result<Plan, Refusal> {
     let (head, body) = split(bytes, HEADER_BYTES).ok_or(Refusal::PlanTooShort)?;
     let header = header_fields(head);
+    let form = reading.form(header.form).ok_or(Refusal::FormUnknown)?;
     ask_header(&header)?;
-    let count = header.task_count;
-    ask(body.len() == TASK_BYTES * count, Refusal::PlanLengthWrong)?;
-    let mut successors = Vec::with_capacity(count);
-    for (number, entry) in body.chunks_exact(TASK_BYTES).enumerate() {
-        successors.push(read_successors(entry, number, count)?);
-    }
-    let predecessors = predecessors_of(&successors);
-    ask_graph(&successors, &predecessors)?;
-    let pairs = successors.into_iter().zip(predecessors);
+    let length = form.task_bytes * header.task_count;
+    ask(body.len() == length, Refusal::PlanLengthWrong)?;
+    let entries = body.chunks_exact(form.task_bytes);
+    let entries: Vec<TaskBits> = entries.map(|bytes| reading.task(form, bytes)).collect();
     Ok(Plan {
         responsiveness: header.responsiveness as usize,
         utilization: header.utilization,
         quantum_length: header.quantum_length as u32,
-        tasks: pairs.map(|(s, p)| Task::new(s, p)).collect(),
+        tasks: read_tasks(&entries, reading.asked)?,
     })
 }
 
-impl Task {
-    fn new(successors: Vec<u16>, predecessors: Vec<u16>) -> Task {
-        Task {
-            successors,
-            predecessors,
-        }
+/// Questions 7 to 10, and 28 in its place: 7, 8 and 28 of one task, then of the
+/// next.
+fn read_tasks(entries: &[TaskBits], asked: Asked) -> Result<Vec<Task>, Refusal> {
+    let lasts = |entry: &TaskBits, now| ask(now != asked || entry.ticks > 0, Refusal::TicksZero);
+    let all_last = |now| entries.iter().try_for_each(|entry| lasts(entry, now));
+    let mut successors = Vec::with_capacity(entries.len());
+    for (number, entry) in entries.iter().enumerate() {
+        lasts(entry, Asked::BeforeSeven)?;
+        let named = named_successors(entry.old)?;
+        lasts(entry, Asked::BeforeEight)?;
+        ask_successors(&named, number, entries.len())?;
+        lasts(entry, Asked::AfterEight)?;
+        successors.push(named);
     }
+    all_last(Asked::AfterTasks)?;
+    let predecessors = predecessors_of(&successors);
+    ask_graph(&successors, &predecessors)?;
+    all_last(Asked::AfterTen)?;
+    let lists = successors.into_iter().zip(predecessors);
+    let task = |((successors, predecessors), entry): (_, &TaskBits)| Task {
+        successors,
+        predecessors,
+        ticks: entry.ticks,
+    };
+    Ok(lists.zip(entries).map(task).collect())
 }
 
 /// The items before and from a place, or nothing where the place is past the end.
@@ -128,9 +153,8 @@ fn header_fields(head: &[u8]) -> Header {
     }
 }
 
-/// Questions 2 to 5.
+/// Questions 3 to 5.
 fn ask_header(header: &Header) -> Result<(), Refusal> {
-    ask(header.form == 1, Refusal::FormUnknown)?;
     ask(header.responsiveness >= 2, Refusal::ResponsivenessTooSmall)?;
     ask(
         (1..=100).contains(&header.utilization),
@@ -139,21 +163,24 @@ fn ask_header(header: &Header) -> Result<(), Refusal> {
     ask(header.quantum_length >= 1, Refusal::QuantumLengthZero)
 }
 
-/// One task's 24 bits: successor count 2, first 11, second 11. Questions 7
-/// and 8; 8 is asked of the used fields only.
-fn read_successors(entry: &[u8], number: usize, count: usize) -> Result<Vec<u16>, Refusal> {
-    let word = big_endian(entry);
+/// One task's 24 bits: successor count 2, first 11, second 11. The used fields,
+/// and question 7.
+fn named_successors(word: u64) -> Result<Vec<u16>, Refusal> {
     let fields = [field(word, 11, 11) as u16, field(word, 0, 11) as u16];
     let used_count = field(word, 22, 2) as usize;
     let (used, unused) = split(&fields, used_count).ok_or(Refusal::SuccessorCountWrong)?;
     ask(unused.iter().all(|&f| f == 0), Refusal::SuccessorCountWrong)?;
-    let in_range = |&s: &u16| usize::from(s) > number && usize::from(s) < count;
-    let different = used.len() < 2 || fields[0] != fields[1];
-    ask(
-        used.iter().all(in_range) && different,
-        Refusal::SuccessorWrong,
-    )?;
     Ok(used.to_vec())
+}
+
+/// Question 8 of the used fields.
+fn ask_successors(named: &[u16], number: usize, count: usize) -> Result<(), Refusal> {
+    let in_range = |&s: &u16| usize::from(s) > number && usize::from(s) < count;
+    let different = named.len() < 2 || named[0] != named[1];
+    ask(
+        named.iter().all(in_range) && different,
+        Refusal::SuccessorWrong,
+    )
 }
 
 /// The predecessors of every task: only a task's own successors are after it.

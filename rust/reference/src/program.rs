@@ -1,7 +1,7 @@
 //! The program: from input bytes to what it prints.
 
 use crate::counters::counters_text;
-use crate::job::Job;
+use crate::job::{Job, Rules};
 use crate::log::run_log;
 use crate::plan::{big_endian, split};
 use crate::refusal::{ask, Refusal};
@@ -21,12 +21,17 @@ pub fn split_input(input: &[u8]) -> Result<(&[u8], &[u8]), Refusal> {
 /// What the program prints for an input: the counters line, or the refusal;
 /// after 18 the counters line first.
 pub fn program_output(input: &[u8]) -> String {
-    run(input).unwrap_or_else(refusal_line)
+    program_output_with(input, Rules::default())
 }
 
-fn run(input: &[u8]) -> Result<String, Refusal> {
+/// The same where the job follows these rules.
+pub fn program_output_with(input: &[u8], rules: Rules) -> String {
+    run(input, rules).unwrap_or_else(refusal_line)
+}
+
+fn run(input: &[u8], rules: Rules) -> Result<String, Refusal> {
     let (plan, log) = split_input(input)?;
-    let mut job = Job::accept(plan)?;
+    let mut job = Job::accept_with(plan, rules)?;
     let outcome = run_log(&mut job, log);
     let mut output = counters_text(&job, outcome.refused);
     output.extend(outcome.broken.map(refusal_line));

@@ -1,4 +1,5 @@
-//! The questions of document 01, each with its number when the answer is no.
+//! The questions of document 01 and its requests, each with its number when the
+//! answer is no.
 
 use std::fmt;
 
@@ -28,13 +29,14 @@ pub enum Refusal {
     BufferTooSmall = 20,
     InputTooLong = 21,
     InputTooShort = 22,
+    TicksZero = 28,
 }
 
 use Refusal::*;
 
 impl Refusal {
-    /// Every refusal, in the order of the numbers 1 to 22.
-    pub const ALL: [Refusal; 22] = [
+    /// Every refusal, in the order of the numbers 1 to 22 and 28.
+    pub const ALL: [Refusal; 23] = [
         PlanTooShort,
         FormUnknown,
         ResponsivenessTooSmall,
@@ -57,9 +59,10 @@ impl Refusal {
         BufferTooSmall,
         InputTooLong,
         InputTooShort,
+        TicksZero,
     ];
 
-    /// Document 01's number of this refusal.
+    /// The number of this refusal, document 01's or a request's.
     pub fn number(self) -> u8 {
         self as u8
     }
@@ -68,11 +71,11 @@ impl Refusal {
     pub fn sentence(self) -> &'static str {
         match self {
             PlanTooShort => "the plan has fewer than 5 bytes",
-            FormUnknown => "the plan's form is not 1",
+            FormUnknown => "the plan's form is neither 1 nor 2",
             ResponsivenessTooSmall => "the responsiveness is below 2",
             UtilizationOutOfRange => "the utilization is not from 1 to 100 percent",
             QuantumLengthZero => "the quantum length is 0",
-            PlanLengthWrong => "the plan's length does not fit its number of tasks",
+            PlanLengthWrong => "the plan's length does not fit its form and number of tasks",
             SuccessorCountWrong => "a task has 3 successors or an unused field that is not 0",
             SuccessorWrong => "a successor is not above its task, not a task, or named twice",
             PredecessorCountWrong => "a task after task 0 has not one or two predecessors",
@@ -89,6 +92,7 @@ impl Refusal {
             BufferTooSmall => "the buffer for the counters line has fewer than 128 bytes",
             InputTooLong => "the program's input has more than 65,536 bytes",
             InputTooShort => "the program's input ends before its plan does",
+            TicksZero => "a task lasts 0 ticks",
         }
     }
 }

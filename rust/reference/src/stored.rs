@@ -2,6 +2,10 @@
 //! runs them one after the other. A case is the input's size in three bytes,
 //! the input, the output's size in one byte, and the output.
 
+mod lasting;
+
+use lasting::lasted;
+
 use crate::generator::edges::edge_plans;
 use crate::generator::graph::{graph, Shape, MOST_TASKS};
 use crate::generator::logs::{guided_log, Grants, Style, Writer, CHOICES, ENDINGS, GRANTS};
@@ -18,8 +22,11 @@ pub const KEPT_SEED: u64 = 1;
 /// A generated case up to this size is taken.
 const SMALL: usize = 400;
 
+/// The log of a made case that follows its job has about this size at most.
+const BUDGET: usize = 3_000;
+
 /// Generated cases are taken until the set has this size.
-const ENOUGH: usize = 308_700;
+const ENOUGH: usize = 362_000;
 
 const SHAPES: [Shape; 5] = [
     Shape::Chain,
@@ -43,6 +50,7 @@ pub fn stored_set(seed: u64) -> Vec<u8> {
         finished(),
         shaped(&mut random),
         wide(&mut random),
+        lasted(&mut random),
     ];
     for input in made.concat() {
         store(&mut set, &input);
@@ -206,23 +214,27 @@ fn quantum(writer: &mut Writer, choices: &[u8]) {
     writer.tick(choices);
 }
 
-/// The desire climbs to the number of workers, in steal cycles in vain; worker
-/// 0 alone goes on until one more work cycle gives its line this size; then the
-/// calls.
+/// The desire climbs to the number of workers; worker 0 alone goes on until one
+/// more work cycle gives its line this size; then the calls.
 fn with_line(size: usize, workers: usize, calls: impl Fn(&mut Writer)) -> Vec<u8> {
     let mut draft = Draft::of_graph(&nested(MOST_FORKS.min(size + 3)));
     draft.utilization = 1;
     draft.quantum_length = 1;
     written(&draft, |writer| {
-        while writer.job.desire() < workers {
-            let own: Vec<u8> = (0..writer.job.desire() as u8).collect();
-            quantum(writer, &own);
-        }
+        climb(writer, workers);
         while writer.job.deques()[0].len() + 1 < size {
             quantum(writer, &[0]);
         }
         calls(writer);
     })
+}
+
+/// The desire climbs to the number of workers, in steal cycles in vain.
+fn climb(writer: &mut Writer, workers: usize) {
+    while writer.job.desire() < workers {
+        let own: Vec<u8> = (0..writer.job.desire() as u8).collect();
+        quantum(writer, &own);
+    }
 }
 
 /// Forks inside each other's first part: a worker alone has one task more in
@@ -296,7 +308,7 @@ fn wide(random: &mut Random) -> Vec<Vec<u8>> {
         let mut draft = wide_draft(random);
         draft.responsiveness = responsiveness;
         let index = inputs.len();
-        inputs.push(logged(random, &draft, GRANTS[index % 2], index));
+        inputs.push(logged(random, &draft, GRANTS[index % 2], index, BUDGET));
     }
     inputs
 }
@@ -325,7 +337,7 @@ fn followed(
     index: usize,
 ) -> Vec<u8> {
     let draft = draft(random, shape, count, 2 + index as u64 % 6);
-    logged(random, &draft, grants, index)
+    logged(random, &draft, grants, index, BUDGET)
 }
 
 fn draft(random: &mut Random, shape: Shape, count: usize, responsiveness: u64) -> Draft {
@@ -336,12 +348,19 @@ fn draft(random: &mut Random, shape: Shape, count: usize, responsiveness: u64) -
     draft
 }
 
-fn logged(random: &mut Random, draft: &Draft, grants: Grants, index: usize) -> Vec<u8> {
+/// An input of a draft whose log follows the job, up to about so many bytes.
+fn logged(
+    random: &mut Random,
+    draft: &Draft,
+    grants: Grants,
+    index: usize,
+    budget: usize,
+) -> Vec<u8> {
     let style = Style {
         grants,
         choices: CHOICES[index % CHOICES.len()],
         stray: [0, 40][index % 2],
-        budget: 3_000,
+        budget,
         ending: ENDINGS[index % ENDINGS.len()],
     };
     let plan = draft.bytes();

@@ -120,7 +120,13 @@ impl Numbers {
                 return 17;
             }
             // SAFETY: there are at most 64 choices, each below the number of workers.
-            unsafe { self.cycles(tables, choices) };
+            unsafe {
+                if self.is_lasting {
+                    self.lasting_cycles(tables, choices);
+                } else {
+                    self.cycles::<false>(tables, choices);
+                }
+            }
         }
         self.ticks += 1;
         if self.ticks == self.quantum_length && self.done != self.tasks {
@@ -129,20 +135,26 @@ impl Numbers {
         0
     }
 
-    /// The workers' cycles. The counts of mug and steal cycles follow at the end from the muggable deques that are left. Once the last task
-    /// is worked all deques are empty, so that the workers after the finisher steal in vain, as request U6 asks.
+    /// The workers' cycles; `LASTING` where a task may have more than one tick. The counts of mug and steal cycles follow at the end from the
+    /// muggable deques that are left. Once the last task is worked all deques are empty, so that the workers after the finisher steal in
+    /// vain, as request U6 asks.
     ///
     /// # Safety
     /// There are at most 64 choices, each below the number of workers.
     #[inline(always)]
-    unsafe fn cycles(&mut self, tables: &mut Tables, choices: &[u8]) {
+    unsafe fn cycles<const LASTING: bool>(&mut self, tables: &mut Tables, choices: &[u8]) {
         let (waiting, mut left) = (self.waiting, self.waiting);
-        let (mut works, mut successes) = (0, 0);
+        let (mut works, mut stays, mut successes) = (0, 0, 0);
         for (worker, &choice) in choices.iter().enumerate() {
             let size = *tables.ends.get_unchecked(SIZES + worker);
             if size != 0 {
-                tables.work(worker, size);
                 works += 1;
+                let task = usize::from(*tables.ends.get_unchecked(worker));
+                if tables.is_last_tick::<LASTING>(task) {
+                    tables.work(worker, size, task);
+                } else {
+                    stays += 1;
+                }
             } else if left != 0 {
                 tables.mug(worker, (self.head + waiting - left) % WORKERS);
                 left -= 1;
@@ -158,12 +170,21 @@ impl Numbers {
         let mugs = waiting - left;
         self.head = (self.head + mugs) % WORKERS;
         self.waiting = left;
-        self.done += works as u16;
+        self.done += (works - stays) as u16;
         self.works += works;
         self.mugs += mugs as u64;
         self.steals += choices.len() as u64 - works - mugs as u64;
         self.successes += successes;
         self.usage += works + mugs as u64;
+    }
+
+    /// The same where tasks last; a call of its own, so that a tick of form 1 stays short.
+    ///
+    /// # Safety
+    /// As for `cycles`.
+    #[inline(never)]
+    unsafe fn lasting_cycles(&mut self, tables: &mut Tables, choices: &[u8]) {
+        self.cycles::<true>(tables, choices);
     }
 
     /// The quantum's end.
@@ -184,14 +205,26 @@ impl Numbers {
 }
 
 impl Tables {
-    /// The front task of the worker's deque of this size is worked.
+    /// A tick of the task is done; whether it was the last, as the only one is.
     ///
     /// # Safety
-    /// The worker is below 64 and its deque has this size, above 0.
+    /// The task is below 1,024 and has ticks left; one, unless `LASTING`.
     #[inline(always)]
-    unsafe fn work(&mut self, worker: usize, size: u16) {
-        let task = usize::from(*self.ends.get_unchecked(worker));
-        *self.pending.get_unchecked_mut(task) = 3;
+    unsafe fn is_last_tick<const LASTING: bool>(&mut self, task: usize) -> bool {
+        let mut left = 0;
+        if LASTING {
+            left = *self.left.get_unchecked(task) - 1;
+        }
+        *self.left.get_unchecked_mut(task) = left;
+        left == 0
+    }
+
+    /// The front task of the worker's deque of this size had its last tick.
+    ///
+    /// # Safety
+    /// The worker is below 64 and its deque has this size, above 0, and this task at its front.
+    #[inline(always)]
+    unsafe fn work(&mut self, worker: usize, size: u16, task: usize) {
         let one = *self.first.get_unchecked(task);
         let two = *self.second.get_unchecked(task);
         let mut deque = (*self.next.get_unchecked(task), size - 1);

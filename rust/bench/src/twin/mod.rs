@@ -5,6 +5,9 @@
 //! - a task number in `first`, `second`, `ends` or `next` is below 1,024: acceptance checks the first two, and the others hold only those;
 //! - `workers` and `desire` are at most 64, `head` is below 64, `waiting` is at most 64.
 //!
+//! A task has its ticks left in `left`, and is worked where none are. In a plan of form 1 a task's first tick is its last, so that a tick of
+//! such a job does not ask for it.
+//!
 //! The fields are private, so nothing else can break them.
 
 mod calls;
@@ -18,7 +21,7 @@ const WORKERS: usize = 64;
 /// The size of the deque at a place stands so many behind its front.
 const SIZES: usize = 128;
 
-/// A job. The arrays are the proved library's, and mean the same.
+/// A job. The arrays but `left` are the proved library's, and mean the same.
 #[repr(C)]
 #[derive(Clone)]
 pub struct Job {
@@ -32,6 +35,7 @@ struct Tables {
     first: [u16; MOST_TASKS],
     second: [u16; MOST_TASKS],
     pending: [u8; MOST_TASKS],
+    left: [u8; MOST_TASKS],
     next: [u16; MOST_TASKS],
     ends: [u16; 256],
 }
@@ -57,12 +61,14 @@ struct Numbers {
     desire: u8,
     started: bool,
     is_open: bool,
+    is_lasting: bool,
 }
 
 /// What a job shows, as values that can be compared.
 #[derive(Clone, Debug, PartialEq, Eq)]
 pub struct View {
-    pub worked: Vec<bool>,
+    /// The ticks left of each task; none of a worked one.
+    pub left: Vec<u8>,
     pub deques: Vec<Vec<u16>>,
     pub muggable: Vec<Vec<u16>>,
     pub desire: usize,
@@ -84,6 +90,7 @@ impl Job {
                 first: [0; MOST_TASKS],
                 second: [0; MOST_TASKS],
                 pending: [0; MOST_TASKS],
+                left: [0; MOST_TASKS],
                 next: [0; MOST_TASKS],
                 ends: [0; 256],
             },
@@ -108,10 +115,7 @@ impl Job {
         let ring = |age| WORKERS + (numbers.head + age) % WORKERS;
         let tasks = usize::from(numbers.tasks);
         View {
-            worked: self.tables.pending[..tasks]
-                .iter()
-                .map(|&p| p == 3)
-                .collect(),
+            left: self.tables.left[..tasks].to_vec(),
             deques: (0..usize::from(numbers.workers))
                 .map(|w| self.deque(w))
                 .collect(),

@@ -1,6 +1,8 @@
 //! The C header and the documents' tables say the same.
 
-use jirvaldo::{Refusal, LINE_BUFFER, LONGEST_PLAN, MOST_QUANTA, MOST_TASKS, MOST_WORKERS};
+use jirvaldo::{
+    Job, Refusal, LINE_BUFFER, LONGEST_PLAN, LONGEST_TASK, MOST_QUANTA, MOST_TASKS, MOST_WORKERS,
+};
 
 const HEADER: &str = include_str!("../../../../include/jirvaldo.h");
 const INTEGRATING: &str = include_str!("../../../../docs/INTEGRATING.md");
@@ -42,6 +44,7 @@ fn limits() {
     let limits = [
         ("JIRVALDO_TASKS_MAX", MOST_TASKS),
         ("JIRVALDO_PLAN_MAX", LONGEST_PLAN),
+        ("JIRVALDO_TICKS_MAX", LONGEST_TASK),
         ("JIRVALDO_WORKERS_MAX", MOST_WORKERS),
         ("JIRVALDO_QUANTA_MAX", MOST_QUANTA),
         ("JIRVALDO_LINE_BUFFER", LINE_BUFFER),
@@ -51,6 +54,8 @@ fn limits() {
         let found = HEADER.lines().filter(|line| line.starts_with(&said));
         assert_eq!(found.count(), 1, "{said}");
     }
+    let size = format!("    JIRVALDO_JOB_SIZE = {} ", std::mem::size_of::<Job>());
+    assert!(HEADER.lines().any(|line| line.starts_with(&size)));
     let thousands = format!("{},{:03} quanta", MOST_QUANTA / 1000, MOST_QUANTA % 1000);
     assert!(Refusal::QuantaSpent.to_string().starts_with(&thousands));
 }
@@ -91,7 +96,7 @@ fn numbers_of_the_tables() {
         .take_while(|line| *line != "};")
         .filter_map(|line| line.trim_end_matches(',').split(" = ").nth(1));
     let named: Vec<&str> = named.collect();
-    assert_eq!(named.len(), 22);
+    assert_eq!(named.len(), 23);
     assert_eq!(numbers(REFERENCE), named);
     assert_eq!(numbers(INTEGRATING), named);
 }

@@ -14,8 +14,10 @@ fn a_fresh_job() {
             utilization: 33,
             quantum_length: 65_535,
             successors: vec![vec![2, 1], vec![3], vec![3], vec![]],
+            durations: vec![1; 4],
         },
         worked: vec![false; 4],
+        left: vec![1; 4],
         deques: vec![],
         muggable: vec![],
         desire: 1,
@@ -62,8 +64,11 @@ fn nothing_is_shown_past_the_last() {
     assert_eq!(job.run_log(&hex("01 81 00")).refused_calls, 0);
     let view = View::of(&job);
     assert_eq!((view.is_worked(0), view.is_worked(1)), (true, false));
+    assert_eq!((view.duration(3), view.ticks_left(3)), (1, 1));
+    assert_eq!((view.durations().count(), view.left().count()), (4, 4));
     for past in [4, 1023, 1024, usize::MAX] {
         assert!(!view.is_worked(past));
+        assert_eq!((view.duration(past), view.ticks_left(past)), (0, 0));
         assert_eq!(view.successors(past).count(), 0);
         assert_eq!(view.deque(past).count(), 0);
         assert_eq!(view.muggable_deque(past).count(), 0);

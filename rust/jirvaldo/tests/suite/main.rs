@@ -4,6 +4,7 @@ mod calls;
 mod examples;
 mod header;
 mod inspected;
+mod lasting;
 mod plans;
 mod shows;
 
@@ -35,6 +36,17 @@ fn plan(responsiveness: u64, utilization: u64, length: u64, tasks: &[&[u32]]) ->
     bytes
 }
 
+/// A plan's bytes in form 2, from those in form 1 and the ticks of each task.
+fn lasting(plan: &[u8], ticks: &[u8]) -> Vec<u8> {
+    let mut bytes = plan[..5].to_vec();
+    bytes[0] += 0x10;
+    for (task, &ticks) in plan[5..].chunks_exact(3).zip(ticks) {
+        bytes.extend_from_slice(task);
+        bytes.push(ticks);
+    }
+    bytes
+}
+
 /// A chain of that many tasks, with L = 1.
 fn chain(count: u32) -> Vec<u8> {
     let after: Vec<Vec<u32>> = (1..=count)
@@ -43,6 +55,9 @@ fn chain(count: u32) -> Vec<u8> {
     let tasks: Vec<&[u32]> = after.iter().map(Vec::as_slice).collect();
     plan(2, 80, 1, &tasks)
 }
+
+/// A task followed by two, and these by one.
+const DIAMOND: [&[u32]; 4] = [&[1, 2], &[3], &[3], &[]];
 
 /// The fresh job of an accepted plan.
 fn job(plan: &[u8]) -> Job {

@@ -1,8 +1,8 @@
 //! Whole cases: an input of the program, and the same plan and log apart.
 
-use super::damage::{damaged, damaged_twice, flipped};
+use super::damage::damaged_plan;
 use super::logs::{blind_log, guided_log, marathon_log, style};
-use super::plans::{marathon_draft, sound_draft, Draft};
+use super::plans::{marathon_draft, sound_draft};
 use super::random::Random;
 use crate::job::Job;
 use crate::program::{split_input, MOST_INPUT};
@@ -87,17 +87,6 @@ fn case(random: &mut Random, index: usize) -> Case {
         log,
         sheet: sheet(random),
         buffer: *random.pick(&[0, 1, 127, 128, 129, 160]).unwrap_or(&128),
-    }
-}
-
-fn damaged_plan(random: &mut Random, draft: &Draft) -> Vec<u8> {
-    match random.below(16) {
-        0 | 1 => flipped(random, draft),
-        2 | 3 => damaged_twice(random, draft),
-        _ => {
-            let aim = random.between(1, 10) as u8;
-            damaged(random, draft, aim)
-        }
     }
 }
 

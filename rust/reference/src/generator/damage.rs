@@ -1,18 +1,40 @@
-//! Damaged plans: each kind of damage aims at one of the refusals 1 to 10.
+//! Damaged plans: each kind of damage aims at one of the refusals 1 to 10 and
+//! 28.
 
-use super::plans::{Draft, DraftTask};
+use super::plans::{lasting, Draft, DraftTask};
 use super::random::Random;
 
+/// A damaged plan of any kind.
+pub fn damaged_plan(random: &mut Random, draft: &Draft) -> Vec<u8> {
+    match random.below(16) {
+        0 | 1 => flipped(random, draft),
+        2 | 3 => damaged_twice(random, draft),
+        4..=6 => damaged_beside(random, draft),
+        7 => other_body(draft),
+        _ => {
+            let aim = any_aim(random);
+            damaged(random, draft, aim)
+        }
+    }
+}
+
+/// Any of the refusals of a plan, those of its form and ticks twice as often.
+fn any_aim(random: &mut Random) -> u8 {
+    *random
+        .pick(&[1, 2, 2, 3, 4, 5, 6, 7, 8, 9, 10, 28, 28])
+        .unwrap_or(&1)
+}
+
 /// Damages a sound draft so that this refusal is likely (some graphs are too
-/// small for some damage), and packs it.
-pub fn damaged(random: &mut Random, draft: &Draft, aim: u8) -> Vec<u8> {
+/// small for some damage, and 28 takes form 2), and packs it.
+fn damaged(random: &mut Random, draft: &Draft, aim: u8) -> Vec<u8> {
     if draft.tasks.is_empty() {
         return draft.bytes();
     }
     let mut draft = draft.clone();
     let (task, count) = (random.below(draft.tasks.len()), draft.tasks.len());
     match aim {
-        2 => draft.form = *random.pick(&[0, 2, 3, 5, 9, 15]).unwrap_or(&0),
+        2 => draft.form = *random.pick(&[0, 3, 3, 9, 15, 15]).unwrap_or(&0),
         3 => draft.responsiveness = random.below(2) as u64,
         4 => draft.utilization = *random.pick(&[0, 101, 102, 127]).unwrap_or(&0),
         5 => draft.quantum_length = 0,
@@ -20,6 +42,7 @@ pub fn damaged(random: &mut Random, draft: &Draft, aim: u8) -> Vec<u8> {
         8 => wrong_successor(random, &mut draft.tasks[task], task, count),
         9 => wrong_predecessors(random, &mut draft),
         10 => second_sink(random, &mut draft),
+        28 => draft = no_ticks(random, draft),
         _ => (),
     }
     let mut bytes = draft.bytes();
@@ -32,27 +55,76 @@ pub fn damaged(random: &mut Random, draft: &Draft, aim: u8) -> Vec<u8> {
 }
 
 /// Damages a draft twice, so that the order of the questions matters.
-pub fn damaged_twice(random: &mut Random, draft: &Draft) -> Vec<u8> {
+fn damaged_twice(random: &mut Random, draft: &Draft) -> Vec<u8> {
     let mut draft = draft.clone();
     let count = draft.tasks.len();
     for _ in 0..2.min(count) {
         let task = random.below(count);
-        match random.below(7) {
+        match random.below(9) {
             0 => draft.form = 0,
             1 => draft.responsiveness = 1,
             2 => draft.utilization = 101,
             3 => draft.quantum_length = 0,
             4 => draft.count_less_one ^= 1,
             5 => wrong_count(random, &mut draft.tasks[task]),
-            _ => wrong_successor(random, &mut draft.tasks[task], task, count),
+            6 => wrong_successor(random, &mut draft.tasks[task], task, count),
+            _ => draft = no_ticks(random, draft),
         }
     }
-    let aim = random.between(1, 10) as u8;
+    let aim = any_aim(random);
     damaged(random, &draft, aim)
 }
 
+/// A task of 0 ticks and one damage more: at the same task, at the next one, or
+/// in the graph.
+fn damaged_beside(random: &mut Random, draft: &Draft) -> Vec<u8> {
+    let count = draft.tasks.len();
+    let mut draft = lasting_already(random, draft.clone());
+    let zero = random.below(count);
+    let place = (zero + random.below(2)).min(count.saturating_sub(1));
+    if count == 0 {
+        return draft.bytes();
+    }
+    match random.below(6) {
+        0 | 1 => wrong_count(random, &mut draft.tasks[place]),
+        2 | 3 => wrong_successor(random, &mut draft.tasks[place], place, count),
+        4 => wrong_predecessors(random, &mut draft),
+        _ => second_sink(random, &mut draft),
+    }
+    draft.tasks[zero].ticks = 0;
+    draft.bytes()
+}
+
+/// The draft itself where its tasks have ticks, else its form 2.
+fn lasting_already(random: &mut Random, draft: Draft) -> Draft {
+    if draft.has_ticks {
+        draft
+    } else {
+        lasting(random, draft)
+    }
+}
+
+/// The first, the last or any task has 0 ticks, in form 2.
+fn no_ticks(random: &mut Random, draft: Draft) -> Draft {
+    let mut draft = lasting_already(random, draft);
+    let last = draft.tasks.len().saturating_sub(1);
+    let any = random.below(draft.tasks.len());
+    let place = *random.pick(&[0, any, last]).unwrap_or(&0);
+    if let Some(task) = draft.tasks.get_mut(place) {
+        task.ticks = 0;
+    }
+    draft
+}
+
+/// The header of one form with the tasks of the other.
+fn other_body(draft: &Draft) -> Vec<u8> {
+    let mut draft = draft.clone();
+    draft.has_ticks = !draft.has_ticks;
+    draft.bytes()
+}
+
 /// Turns some bits of a packed plan around.
-pub fn flipped(random: &mut Random, draft: &Draft) -> Vec<u8> {
+fn flipped(random: &mut Random, draft: &Draft) -> Vec<u8> {
     let mut bytes = draft.bytes();
     for _ in 0..random.between(1, 3) {
         let (place, bit) = (random.below(bytes.len()), random.below(8));

@@ -3,23 +3,91 @@
 
 use super::plans::{Draft, DraftTask};
 
-/// The plans, also cut short and with a byte more.
+/// The plans of form 1 and of form 2.
 pub fn edge_plans() -> Vec<Vec<u8>> {
-    let edited = EDITS.iter().map(|edit| {
-        let mut draft = plan_a();
+    let old = edited(&plan_a(), &EDITS);
+    let new = edited(&lasting_plan_a(), &LASTING_EDITS);
+    let plans = [old, new, every_form(), zero_and_wrong(), zero_and_loose()];
+    plans.concat()
+}
+
+/// Every form's number over the tasks of form 1 and of form 2.
+fn every_form() -> Vec<Vec<u8>> {
+    let with_form = |mut draft: Draft, form| {
+        draft.form = form;
+        draft.bytes()
+    };
+    let both = |form| [plan_a(), lasting_plan_a()].map(|draft| with_form(draft, form));
+    (0..16).flat_map(both).collect()
+}
+
+/// A plan with each of the edits, and the plan cut short and with a byte more.
+fn edited(draft: &Draft, edits: &[fn(&mut Draft)]) -> Vec<Vec<u8>> {
+    let edited = edits.iter().map(|edit| {
+        let mut draft = draft.clone();
         edit(&mut draft);
         draft.bytes()
     });
-    let plan = plan_a().bytes();
+    let plan = draft.bytes();
     let lengths = [0, 4, 5, plan.len() - 1, plan.len()];
     let cut = lengths.iter().map(|&size| plan[..size].to_vec());
     let longer = [&plan[..], &[0]].concat();
     edited.chain(cut).chain([longer]).collect()
 }
 
+/// A task of 0 ticks, and the same or another one with fields that 7 or 8
+/// refuses: every pair of the four tasks of Plan A.
+fn zero_and_wrong() -> Vec<Vec<u8>> {
+    // Three for 7: a count of 3, and an unused field in use. Three for 8: not
+    // above its task, no task, and named twice.
+    let wrong = [
+        [3, 1, 2],
+        [1, 3, 3],
+        [0, 3, 0],
+        [1, 0, 0],
+        [2, 4, 3],
+        [2, 3, 3],
+    ];
+    let mut plans = Vec::new();
+    for fields in wrong {
+        for (zero, place) in (0..4).flat_map(|zero| (0..4).map(move |place| (zero, place))) {
+            let mut draft = lasting_plan_a();
+            set(&mut draft, place, fields);
+            draft.tasks[zero].ticks = 0;
+            plans.push(draft.bytes());
+        }
+    }
+    plans
+}
+
+/// Each task with 0 ticks in a graph that 9 or 10 refuses.
+fn zero_and_loose() -> Vec<Vec<u8>> {
+    let edits: [fn(&mut Draft); 3] = [
+        |draft| set(draft, 0, [1, 2, 0]),
+        |draft| set(draft, 0, [2, 1, 3]),
+        |draft| set(draft, 2, [0, 0, 0]),
+    ];
+    let mut plans = Vec::new();
+    for (edit, zero) in edits
+        .iter()
+        .flat_map(|edit| (0..4).map(move |zero| (edit, zero)))
+    {
+        let mut draft = lasting_plan_a();
+        edit(&mut draft);
+        draft.tasks[zero].ticks = 0;
+        plans.push(draft.bytes());
+    }
+    plans
+}
+
 /// Document 01's Plan A: task 0 is followed by 1 and 2, these by 3.
 fn plan_a() -> Draft {
     Draft::of_graph(&vec![vec![1, 2], vec![3], vec![3], vec![]])
+}
+
+/// The same in form 2: its tasks last 2, 1, 3 and 1 ticks.
+fn lasting_plan_a() -> Draft {
+    plan_a().lasting(|task| [2, 1, 3, 1][task])
 }
 
 /// Sets a task's fields: successor count, first and second successor.
@@ -29,13 +97,12 @@ fn set(draft: &mut Draft, task: usize, fields: [u32; 3]) {
         count,
         first,
         second,
+        ..draft.tasks[task]
     };
 }
 
-/// What is changed in Plan A, in the order of the questions 2 to 10.
-const EDITS: [fn(&mut Draft); 34] = [
-    |draft| draft.form = 0,
-    |draft| draft.form = 2,
+/// What is changed in Plan A, in the order of the questions 3 to 10.
+const EDITS: [fn(&mut Draft); 32] = [
     |draft| draft.responsiveness = 0,
     |draft| draft.responsiveness = 1,
     |draft| draft.responsiveness = 7,
@@ -68,4 +135,27 @@ const EDITS: [fn(&mut Draft); 34] = [
     |draft| set(draft, 0, [2, 3, 2]),
     |draft| set(draft, 1, [2, 2, 3]),
     |draft| set(draft, 2, [0, 0, 0]),
+];
+
+/// What is changed in its form 2, in the order of the questions 3 to 10; then
+/// the ticks.
+const LASTING_EDITS: [fn(&mut Draft); 18] = [
+    |draft| draft.responsiveness = 1,
+    |draft| draft.utilization = 101,
+    |draft| draft.quantum_length = 0,
+    |draft| draft.count_less_one = 2,
+    |draft| draft.count_less_one = 4,
+    |draft| set(draft, 0, [3, 1, 2]),
+    |draft| set(draft, 1, [2, 3, 1]),
+    |draft| set(draft, 0, [1, 1, 0]),
+    |draft| set(draft, 2, [0, 0, 0]),
+    |draft| draft.tasks[0].ticks = 0,
+    |draft| draft.tasks[1].ticks = 0,
+    |draft| draft.tasks[2].ticks = 0,
+    |draft| draft.tasks[3].ticks = 0,
+    |draft| draft.tasks[0].ticks = 1,
+    |draft| draft.tasks[0].ticks = 127,
+    |draft| draft.tasks[0].ticks = 128,
+    |draft| draft.tasks[0].ticks = 255,
+    |draft| draft.tasks.iter_mut().for_each(|task| task.ticks = 1),
 ];

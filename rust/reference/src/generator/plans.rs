@@ -9,12 +9,16 @@ pub struct DraftTask {
     pub count: u32,
     pub first: u32,
     pub second: u32,
+    /// Packed where the draft's tasks have ticks.
+    pub ticks: u32,
 }
 
 /// A plan's fields as they will be packed, sound or not.
 #[derive(Clone, Debug, PartialEq, Eq)]
 pub struct Draft {
     pub form: u64,
+    /// Whether the tasks have ticks, as in form 2.
+    pub has_ticks: bool,
     pub responsiveness: u64,
     pub utilization: u64,
     pub quantum_length: u64,
@@ -23,22 +27,33 @@ pub struct Draft {
 }
 
 impl Draft {
-    /// A sound draft of a graph.
+    /// A sound draft of a graph, of form 1.
     pub fn of_graph(graph: &Graph) -> Draft {
         let field = |list: &Vec<u16>, i: usize| list.get(i).copied().map_or(0, u32::from);
         let draft = |list: &Vec<u16>| DraftTask {
             count: list.len() as u32,
             first: field(list, 0),
             second: field(list, 1),
+            ticks: 1,
         };
         Draft {
             form: 1,
+            has_ticks: false,
             responsiveness: 2,
             utilization: 80,
             quantum_length: 2,
             count_less_one: (graph.len() as u64).saturating_sub(1),
             tasks: graph.iter().map(draft).collect(),
         }
+    }
+
+    /// The same in form 2, with these ticks by task number.
+    pub fn lasting(mut self, mut ticks: impl FnMut(usize) -> u32) -> Draft {
+        (self.form, self.has_ticks) = (2, true);
+        for (number, task) in self.tasks.iter_mut().enumerate() {
+            task.ticks = ticks(number);
+        }
+        self
     }
 
     /// The packed bytes; what does not fit in a field is cut off.
@@ -52,16 +67,30 @@ impl Draft {
         for task in &self.tasks {
             let word = (task.count & 3) << 22 | (task.first & 2047) << 11 | task.second & 2047;
             bytes.extend_from_slice(&word.to_be_bytes()[1..]);
+            if self.has_ticks {
+                bytes.push(task.ticks as u8);
+            }
         }
         bytes
     }
 }
 
-/// A sound plan of any kind.
+/// A sound plan of any kind, two of five in form 2.
 pub fn sound_draft(random: &mut Random) -> Draft {
-    if random.chance(40) {
-        return wide_draft(random);
+    let draft = if random.chance(40) {
+        wide_draft(random)
+    } else {
+        any_draft(random)
+    };
+    if random.chance(100) {
+        lasting(random, draft)
+    } else {
+        draft
     }
+}
+
+/// A plan of form 1 of any shape and size.
+fn any_draft(random: &mut Random) -> Draft {
     let count = task_count(random);
     let shape = shape(random);
     let mut draft = Draft::of_graph(&graph(random, shape, count));
@@ -91,7 +120,76 @@ pub fn marathon_draft(random: &mut Random) -> Draft {
     draft.responsiveness = random.between(2, 7) as u64;
     draft.utilization = random.between(1, 30) as u64;
     draft.quantum_length = *random.pick(&[1, 1, 1, 2, 3]).unwrap_or(&1);
+    if random.chance(64) {
+        draft = lasting(random, draft);
+    }
     draft
+}
+
+/// How many ticks the tasks of a plan have.
+#[derive(Clone, Copy, Debug, PartialEq, Eq)]
+pub enum Mix {
+    /// One each, as in form 1.
+    One,
+    /// One to three.
+    Few,
+    /// One, two, three, 100 and 255.
+    Mixed,
+    /// Mostly one, and here and there 100 or 255.
+    Rare,
+    /// Any, 1 to 255.
+    Any,
+    /// 255 each.
+    Most,
+}
+
+/// The mixes of short plans, and of all plans; the likeliest more than once.
+const SHORT_MIXES: [Mix; 8] = [
+    Mix::One,
+    Mix::Few,
+    Mix::Few,
+    Mix::Mixed,
+    Mix::Mixed,
+    Mix::Rare,
+    Mix::Any,
+    Mix::Most,
+];
+const MIXES: [Mix; 6] = [
+    Mix::One,
+    Mix::Few,
+    Mix::Few,
+    Mix::Few,
+    Mix::Rare,
+    Mix::Mixed,
+];
+
+impl Mix {
+    /// The ticks of one task.
+    pub fn ticks(self, random: &mut Random) -> u32 {
+        let rare = random.chance(16);
+        let pick = |random: &mut Random, ticks: &[u32]| *random.pick(ticks).unwrap_or(&1);
+        match self {
+            Mix::One => 1,
+            Mix::Few => pick(random, &[1, 2, 3]),
+            Mix::Mixed => pick(random, &[1, 2, 3, 100, 255]),
+            Mix::Rare if rare => pick(random, &[100, 255]),
+            Mix::Rare => 1,
+            Mix::Any => random.between(1, 255) as u32,
+            Mix::Most => 255,
+        }
+    }
+}
+
+/// The same plan in form 2. Many long tasks are in short plans only, so that
+/// logs come to their ends.
+pub fn lasting(random: &mut Random, draft: Draft) -> Draft {
+    let mixes = if draft.tasks.len() <= 24 {
+        &SHORT_MIXES[..]
+    } else {
+        &MIXES[..]
+    };
+    let mix = *random.pick(mixes).unwrap_or(&Mix::Few);
+    draft.lasting(|_| mix.ticks(random))
 }
 
 /// Mostly small, at times up to the most there can be.

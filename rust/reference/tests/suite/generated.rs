@@ -1,10 +1,11 @@
 //! The generator: the same cases for the same seed, and all kinds of them.
 
-use reference::coverage::{Coverage, BRANCHES};
+use reference::coverage::{Branch, Coverage, BRANCHES};
+use reference::form;
 use reference::generator::graph::{graph, Shape};
 use reference::generator::plans::Draft;
 use reference::generator::{cases, Random};
-use reference::Refusal;
+use reference::{read_plan, Plan, Refusal};
 
 use super::plan_refusal;
 
@@ -31,6 +32,22 @@ fn graphs_are_sound() {
 }
 
 #[test]
+fn plans_mix_ticks() {
+    let plans = cases(4)
+        .take(400)
+        .filter_map(|case| read_plan(&case.plan).ok());
+    let ticks = |plan: Plan| plan.tasks().iter().map(|task| task.ticks()).collect();
+    let plans: Vec<Vec<u8>> = plans.map(ticks).collect();
+    let wanted = [1, 2, 3, 100, 255];
+    let has_all = |plan: &&Vec<u8>| wanted.iter().all(|ticks| plan.contains(ticks));
+    let others = plans
+        .iter()
+        .flatten()
+        .filter(|ticks| !wanted.contains(ticks));
+    assert!(plans.iter().filter(has_all).count() > 10 && others.count() > 100);
+}
+
+#[test]
 fn everything_is_reached() {
     let mut coverage = Coverage::default();
     for case in cases(2).take(2_000) {
@@ -47,6 +64,11 @@ fn everything_is_reached() {
     for (branch, name) in BRANCHES {
         assert!(coverage.branch(branch) > 0, "never reached {name}");
     }
+    for ((_, name), &count) in form::BENT.iter().zip(coverage.readings()) {
+        assert!(count > 0, "no plan is read otherwise: {name}");
+    }
+    let forms = [Branch::PlanFormOne, Branch::PlanFormTwo].map(|form| coverage.branch(form));
+    assert!(forms[0] > 900 && forms[1] > 500, "{forms:?}");
     assert!(coverage.responsiveness()[2..].iter().all(|&n| n > 0));
     assert!(coverage.allotments()[0] > 0 && coverage.allotments()[64] > 0);
 }

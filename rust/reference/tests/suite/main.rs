@@ -3,6 +3,7 @@
 mod binary;
 mod examples;
 mod generated;
+mod lasting;
 mod mechanics;
 mod properties;
 mod refusals;
@@ -12,6 +13,9 @@ use reference::{Job, Refusal};
 
 /// Document 01's Plan A.
 const PLAN_A: &str = "15 40 00 08 03  80 08 02  40 18 00  40 18 00  00 00 00";
+
+/// The same in form 2: its pieces last 1, 2, 3 and 255 ticks.
+const LASTING_PLAN_A: &str = "25 40 00 08 03  80 08 02 01  40 18 00 02  40 18 00 03  00 00 00 ff";
 
 /// Bytes from hexadecimal; blanks are passed over.
 fn hex(text: &str) -> Vec<u8> {

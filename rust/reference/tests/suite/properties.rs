@@ -7,7 +7,8 @@ use reference::{Report, Rest, Rules, Status, TickReport};
 
 /// What the checks remember of a job's calls.
 struct Witness {
-    worked: Vec<bool>,
+    /// Of each task, the ticks done.
+    done: Vec<u8>,
     largest_allotment: usize,
 }
 
@@ -70,7 +71,7 @@ fn cycles_are_the_granted_workers_of_the_ticks() {
 /// Follows a log and checks the job after each call.
 fn follow(mut job: Job, log: &[u8]) {
     let mut witness = Witness {
-        worked: vec![false; job.plan().task_count()],
+        done: vec![0; job.plan().task_count()],
         largest_allotment: 0,
     };
     check_state(&job, &witness);
@@ -114,21 +115,27 @@ impl Witness {
         }
     }
 
-    /// Each task is worked at most once and after all its predecessors.
+    /// Each task is worked for its ticks, and after all its predecessors.
     fn check_order(&mut self, plan: &Plan, cycles: &[Cycle]) {
         for cycle in cycles {
-            if let Cycle::Work { task, .. } = *cycle {
+            if let Cycle::Work { task, tick, .. } = *cycle {
                 let task = usize::from(task);
-                assert!(!self.worked[task], "task {task} worked twice");
+                assert!(!self.is_worked(plan, task), "task {task} worked on");
                 assert!(self.is_ready(plan, task), "task {task} worked early");
-                self.worked[task] = true;
+                assert_eq!(tick.is_first, self.done[task] == 0);
+                self.done[task] += 1;
+                assert_eq!(tick.is_last, self.is_worked(plan, task));
             }
         }
     }
 
+    fn is_worked(&self, plan: &Plan, task: usize) -> bool {
+        self.done[task] == plan.tasks()[task].ticks()
+    }
+
     fn is_ready(&self, plan: &Plan, task: usize) -> bool {
         let mut before = plan.tasks()[task].predecessors().iter();
-        before.all(|&p| self.worked[usize::from(p)])
+        before.all(|&p| self.is_worked(plan, usize::from(p)))
     }
 }
 
@@ -177,12 +184,19 @@ fn check_thefts(cycles: &[Cycle]) {
 fn check_state(job: &Job, witness: &Witness) {
     check_limit(job);
     check_deques(job, witness);
-    assert_eq!(job.worked(), witness.worked);
-    let worked = witness.worked.iter().filter(|&&w| w).count();
-    assert_eq!(job.worked_count(), worked);
-    assert_eq!(job.work_cycles(), worked as u64);
-    let all = witness.worked.iter().all(|&w| w);
-    assert_eq!(job.status() == Status::Finished, all);
+    let ticks = job.plan().tasks().iter().map(|task| task.ticks());
+    let left: Vec<u8> = ticks
+        .zip(&witness.done)
+        .map(|(all, done)| all - done)
+        .collect();
+    assert_eq!(job.left(), left);
+    let worked: Vec<bool> = left.iter().map(|&left| left == 0).collect();
+    assert_eq!(job.worked().collect::<Vec<_>>(), worked);
+    let count = worked.iter().filter(|&&worked| worked).count();
+    assert_eq!(job.worked_count(), count as u64);
+    let done: u64 = witness.done.iter().map(|&ticks| u64::from(ticks)).sum();
+    assert_eq!(job.work_cycles(), done);
+    assert_eq!(job.status() == Status::Finished, count == worked.len());
     assert_eq!(job.ever_granted(), witness.largest_allotment > 0);
     let r = job.plan().responsiveness();
     let mut powers = std::iter::successors(Some(1), |power| Some(power * r));
@@ -200,20 +214,19 @@ fn check_limit(job: &Job) {
 }
 
 /// From the first grant above 0 the deques hold each ready unworked task
-/// once and nothing else, and no more of them are non-empty than workers
-/// were ever granted together.
+/// once and nothing else, only at their fronts begun ones, and no more of them
+/// are non-empty than workers were ever granted together.
 fn check_deques(job: &Job, witness: &Witness) {
     let muggable = job.muggable_deques();
     assert!(muggable.iter().all(|deque| !deque.is_empty()));
-    let tasks = job
-        .deques()
-        .iter()
-        .chain(muggable.iter().copied())
-        .flatten();
-    let mut held: Vec<usize> = tasks.map(|&task| usize::from(task)).collect();
+    let all = || job.deques().iter().chain(muggable.iter().copied());
+    let mut behind = all().flat_map(|deque| deque.iter().skip(1));
+    assert!(behind.all(|&task| witness.done[usize::from(task)] == 0));
+    let mut held: Vec<usize> = all().flatten().map(|&task| usize::from(task)).collect();
     held.sort_unstable();
-    let waits = |&task: &usize| !witness.worked[task] && witness.is_ready(job.plan(), task);
-    let ready: Vec<usize> = (0..witness.worked.len()).filter(waits).collect();
+    let plan = job.plan();
+    let waits = |&task: &usize| !witness.is_worked(plan, task) && witness.is_ready(plan, task);
+    let ready: Vec<usize> = (0..witness.done.len()).filter(waits).collect();
     let expected = if job.ever_granted() { ready } else { vec![] };
     assert_eq!(held, expected, "the deques do not hold the ready tasks");
     let busy = job.deques().iter().filter(|deque| !deque.is_empty());

@@ -7,12 +7,12 @@ use reference::{
 };
 use reference::{Job, Refusal, Status};
 
-use super::{hex, input, job, plan_refusal, PLAN_A};
+use super::{hex, input, job, plan_refusal, LASTING_PLAN_A, PLAN_A};
 
 #[test]
 fn numbers_and_sentences() {
     let numbers: Vec<u8> = Refusal::ALL.iter().map(|r| r.number()).collect();
-    assert_eq!(numbers, (1..=22).collect::<Vec<u8>>());
+    assert_eq!(numbers, (1..=22).chain([28]).collect::<Vec<u8>>());
     let shown = Refusal::GrantAboveDesire.to_string();
     assert_eq!(shown, "14: the grant is above the desire");
 }
@@ -25,18 +25,39 @@ fn changed(change: impl Fn(&mut Draft)) -> u8 {
     plan_refusal(&draft.bytes())
 }
 
+/// A draft of its form 2 with one change.
+fn lasting(change: impl Fn(&mut Draft)) -> u8 {
+    let draft = Draft::of_graph(&vec![vec![1, 2], vec![3], vec![3], vec![]]);
+    let mut draft = draft.lasting(|task| [1, 2, 3, 255][task]);
+    assert_eq!(draft.bytes(), hex(LASTING_PLAN_A));
+    change(&mut draft);
+    plan_refusal(&draft.bytes())
+}
+
 fn task(count: u32, first: u32, second: u32) -> DraftTask {
     DraftTask {
         count,
         first,
         second,
+        ticks: 1,
+    }
+}
+
+/// The same with 0 ticks.
+fn zero(count: u32, first: u32, second: u32) -> DraftTask {
+    DraftTask {
+        ticks: 0,
+        ..task(count, first, second)
     }
 }
 
 #[test]
 fn plan_questions() {
     assert_eq!(plan_refusal(&hex("15 40 00 08")), 1);
-    assert_eq!(changed(|d| d.form = 2), 2);
+    for form in (0..16).filter(|form| ![1, 2].contains(form)) {
+        assert_eq!(changed(|d| d.form = form), 2);
+        assert_eq!(lasting(|d| d.form = form), 2);
+    }
     assert_eq!(changed(|d| d.responsiveness = 0), 3);
     assert_eq!(changed(|d| d.utilization = 0), 4);
     assert_eq!(changed(|d| d.quantum_length = 0), 5);
@@ -61,6 +82,51 @@ fn plan_questions_in_order() {
     // 9 of any task before 10; falling fields are fine.
     assert_eq!(changed(|d| d.tasks[0] = task(0, 0, 0)), 9);
     assert_eq!(changed(|d| d.tasks[0] = task(2, 2, 1)), 0);
+}
+
+/// Request U9: 6 reads 5 + 4 x N, and 28 comes after 8 of the same task.
+#[test]
+fn plan_questions_of_form_2() {
+    assert_eq!(lasting(|_| ()), 0);
+    assert_eq!(lasting(|d| d.responsiveness = 1), 3);
+    assert_eq!(lasting(|d| d.utilization = 101), 4);
+    assert_eq!(lasting(|d| d.quantum_length = 0), 5);
+    // The tasks of one form under the header of the other.
+    assert_eq!(lasting(|d| d.form = 1), 6);
+    assert_eq!(lasting(|d| d.has_ticks = false), 6);
+    assert_eq!(changed(|d| d.form = 2), 6);
+    assert_eq!(changed(|d| d.has_ticks = true), 6);
+    for count in [0, 2, 4, 1_023] {
+        assert_eq!(lasting(|d| d.count_less_one = count), 6);
+    }
+    for place in 0..4 {
+        assert_eq!(lasting(|d| d.tasks[place].ticks = 0), 28);
+        assert_eq!(lasting(|d| d.tasks[place].ticks = 1), 0);
+        assert_eq!(lasting(|d| d.tasks[place].ticks = 255), 0);
+    }
+    // In form 1 no ticks are asked for.
+    assert_eq!(changed(|d| d.tasks[0].ticks = 0), 0);
+}
+
+#[test]
+fn twenty_eight_in_its_place() {
+    // After 7 and 8 of the same task.
+    assert_eq!(lasting(|d| d.tasks[1] = zero(3, 2, 3)), 7);
+    assert_eq!(lasting(|d| d.tasks[1] = zero(1, 3, 2)), 7);
+    assert_eq!(lasting(|d| d.tasks[1] = zero(1, 1, 0)), 8);
+    assert_eq!(lasting(|d| d.tasks[0] = zero(2, 2, 2)), 8);
+    // Before 7 and 8 of the next one, and after those of the one before.
+    for (wrong, number) in [(task(3, 2, 3), 7), (task(1, 1, 0), 8)] {
+        let beside = |place: usize| lasting(|d| (d.tasks[1], d.tasks[place].ticks) = (wrong, 0));
+        assert_eq!([beside(0), beside(2), beside(3)], [28, number, number]);
+    }
+    // Before 9 and 10.
+    for place in 0..4 {
+        let loose = |at: usize, task| lasting(|d| (d.tasks[at], d.tasks[place].ticks) = (task, 0));
+        assert_eq!(loose(0, task(1, 2, 0)), 28);
+        assert_eq!(loose(0, task(2, 1, 3)), 28);
+        assert_eq!(loose(1, task(0, 0, 0)), 28);
+    }
 }
 
 /// A call is refused with this number and leaves the job as it was.

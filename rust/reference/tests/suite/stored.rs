@@ -3,8 +3,9 @@
 use reference::coverage::{Coverage, BRANCHES};
 use reference::stored::{stored_cases, stored_set, KEPT_SEED};
 use reference::MOST_QUANTA;
-use reference::{counters_text, program_output, read_plan, run_log, run_log_with, split_input};
-use reference::{rest, theft, withdrawal, Cycle, Entries, Job, Refusal, Report, Rules, Status};
+use reference::{form, lasting, rest, theft, withdrawal};
+use reference::{program_output, program_output_with, read_plan, run_log_with, split_input};
+use reference::{Cycle, Entries, Job, Plan, Refusal, Report, Rules, Status};
 
 /// The kept set, which the crate `vectors` runs, and what it must write.
 const KEPT: &[u8] = include_bytes!("../../../../crates/vectors/stdin");
@@ -56,14 +57,34 @@ fn kept_set_has_the_smallest_and_the_largest() {
     for size in [0, 1, 2, 65_536, 65_537] {
         assert!(sizes.contains(&size), "no input of {size} bytes");
     }
-    let tasks = |input: &[u8]| Some(read_plan(split_input(input).ok()?.0).ok()?.task_count());
-    let counts: Vec<usize> = kept()
-        .iter()
-        .filter_map(|(input, _)| tasks(input))
-        .collect();
+    let plans = kept().into_iter().filter_map(|(input, _)| plan(input));
+    let counts: Vec<usize> = plans.map(|plan| plan.task_count()).collect();
     for count in [1, 2, 1_024] {
         assert!(counts.contains(&count), "no plan of {count} tasks");
     }
+}
+
+/// A case's accepted plan.
+fn plan(input: &[u8]) -> Option<Plan> {
+    read_plan(split_input(input).ok()?.0).ok()
+}
+
+#[test]
+fn kept_set_has_tasks_of_few_and_of_many_ticks() {
+    let plans = kept().into_iter().filter_map(|(input, _)| plan(input));
+    let ticks = |plan: Plan| plan.tasks().iter().map(|task| task.ticks()).collect();
+    let plans: Vec<Vec<u8>> = plans.map(ticks).collect();
+    for ticks in [1, 2, 3, 100, 127, 128, 254, 255] {
+        assert!(plans.iter().any(|plan| plan.contains(&ticks)), "{ticks}");
+    }
+    // The longest plan there can be, and one task of 255 ticks.
+    assert!(plans
+        .iter()
+        .any(|plan| plan.len() == 1_024 && plan.contains(&3)));
+    assert!(plans.contains(&vec![255]));
+    // Each of 4,096 quanta works, and the job is not finished.
+    let outputs: Vec<&[u8]> = kept().into_iter().map(|(_, output)| output).collect();
+    assert!(outputs.contains(&&b"1 16 17 2 1 4096 0 0 0 2\n"[..]));
 }
 
 /// What a case's job has begun and shows at the end, and how many of its grants
@@ -150,8 +171,8 @@ fn reports(input: &[u8]) -> Vec<(usize, Report)> {
 }
 
 /// The sizes of the lines that a case's thieves rob with success, each with the
-/// number of granted workers.
-fn robbed(input: &[u8]) -> Vec<(u16, usize)> {
+/// number of granted workers and whether its front task is begun.
+fn robbed(input: &[u8]) -> Vec<(u16, usize, bool)> {
     let mut lines = Vec::new();
     for (workers, report) in reports(input) {
         let Report::Tick(report) = report else {
@@ -159,8 +180,13 @@ fn robbed(input: &[u8]) -> Vec<(u16, usize)> {
         };
         for cycle in report.cycles {
             match cycle {
-                Cycle::Steal { stolen, left, .. } if stolen > 0 => {
-                    lines.push((stolen + left, workers));
+                Cycle::Steal {
+                    stolen,
+                    left,
+                    begun,
+                    ..
+                } if stolen > 0 => {
+                    lines.push((stolen + left, workers, begun));
                 }
                 _ => (),
             }
@@ -173,10 +199,19 @@ fn robbed(input: &[u8]) -> Vec<(u16, usize)> {
 fn kept_set_has_thefts_from_short_lines_and_the_longest() {
     let lines: Vec<_> = kept().iter().flat_map(|(input, _)| robbed(input)).collect();
     for size in 3..=10 {
-        assert!(lines.contains(&(size, 2)), "no line of {size} is robbed");
+        assert!(
+            lines.contains(&(size, 2, false)),
+            "no line of {size} is robbed"
+        );
     }
-    assert!(lines.contains(&(342, 64)));
-    assert!(lines.iter().all(|&(size, _)| size <= 342));
+    for size in 3..=6 {
+        assert!(
+            lines.contains(&(size, 2, true)),
+            "no line of {size} is robbed behind a begun task"
+        );
+    }
+    assert!(lines.contains(&(342, 64, false)) && lines.contains(&(342, 64, true)));
+    assert!(lines.iter().all(|&(size, ..)| size <= 342));
 }
 
 /// Of each grant of a case, how many deques it withdraws and how many waited.
@@ -217,29 +252,32 @@ fn kept_set_has_jobs_that_any_of_few_finishes_and_the_first_of_64() {
     }
 }
 
-/// How many of the cases have another line where a job follows those rules.
+/// How many of the cases have another output where a job follows those rules.
 fn told_apart(rules: Rules) -> usize {
-    let bent = |(plan, log)| {
-        let mut job = Job::accept(plan).ok()?.with_rules(rules);
-        let outcome = run_log(&mut job, log);
-        Some(counters_text(&job, outcome.refused))
-    };
-    let shows = |input, output: &[u8]| {
-        let line = split_input(input).ok().and_then(bent);
-        line.map_or(false, |line| !output.starts_with(line.as_bytes()))
-    };
     let cases = kept().into_iter();
-    cases.filter(|(input, output)| shows(input, output)).count()
+    let other =
+        |&(input, output): &(&[u8], &[u8])| program_output_with(input, rules).as_bytes() != output;
+    cases.filter(other).count()
 }
 
 #[test]
 fn kept_set_tells_the_requests_rules_apart() {
     let right = Rules::default();
     assert_eq!(told_apart(right), 0);
-    let thefts = theft::BENT.map(|theft| Rules { theft, ..right });
-    let turns = withdrawal::BENT.map(|turn| Rules { turn, ..right });
-    let rests = rest::BENT.map(|rest| Rules { rest, ..right });
-    for rules in thefts.into_iter().chain(turns).chain(rests) {
+    let bent = [
+        theft::BENT.map(|theft| Rules { theft, ..right }).to_vec(),
+        withdrawal::BENT
+            .map(|turn| Rules { turn, ..right })
+            .to_vec(),
+        rest::BENT.map(|rest| Rules { rest, ..right }).to_vec(),
+        lasting::BENT
+            .map(|lasting| Rules { lasting, ..right })
+            .to_vec(),
+        form::BENT
+            .map(|(reading, _)| Rules { reading, ..right })
+            .to_vec(),
+    ];
+    for rules in bent.concat() {
         let found = told_apart(rules);
         assert!(found >= 10, "{found} with {rules:?}");
     }
