@@ -1,5 +1,5 @@
 -- How many predecessors a task still awaits: none exactly when it is ready; one less for each successor of a task that is worked, and no
--- change elsewhere; all of them at the beginning, and so at most two.
+-- change elsewhere; all of them at the beginning.
 -- Assumes nothing.
 use mathlib.Core.Path.{_≡_, refl, sym, ap, _∙_}
 use mathlib.Core.Bool.{Bool, true, false, cond, not, _&&_}
@@ -14,7 +14,6 @@ use borrow.Author.Tests.{eqb-true, eqb-false, ne-eqb}
 use Rattle.model.specs.Tests.{below, every, keep, member, occurrences}
 use Rattle.model.specs.Plan.{Graph, tasks, successors-of, predecessors}
 use Rattle.model.specs.Machine.{ready}
-use Rattle.model.specs.Statements.{SoundGraph}
 use Rattle.laws.specs.Awaited.{completed, still-awaited}
 use Rattle.lists.proofs.Lists.{alike}
 use Rattle.laws.proofs.Deques.{occurrences-append, occurrences-keep}
@@ -74,15 +73,6 @@ unfolding keep
 all-kept [] test h = refl
 all-kept (x ∷ xs) test h = rw (h x) (ap suc (all-kept xs test h))
 
-kept-at-most : (xs : List ℕ) (test : ℕ → Bool) → length (keep test xs) ≤ length xs
-unfolding keep
-kept-at-most [] test = omega arith
-kept-at-most (x ∷ xs) test = go (test x) (kept-at-most xs test)
-  where
-    go : (b : Bool) → length (keep test xs) ≤ length xs → length (cond b (x ∷ keep test xs) (keep test xs)) ≤ suc (length xs)
-    go true h = omega arith
-    go false h = omega arith
-
 -- ---- tasks
 
 module _ (graph : Graph) where
@@ -121,8 +111,3 @@ module _ (graph : Graph) where
     pub other-awaits : (x : ℕ) → member x (successors-of graph t) ≡ false →
         still-awaited graph (completed t worked) x ≡ still-awaited graph worked x
     other-awaits x m = let c = awaited-change x in omega (arith, rw m at c)
-
-pub awaits-at-most : {graph : Graph} → SoundGraph graph → (worked : List Bool) (t : ℕ) → 1 ≤ t → t < tasks graph →
-    still-awaited graph worked t ≤ 2
-awaits-at-most {graph} sound worked t h l =
-    omega (arith, kept-at-most (predecessors graph t) (λ p. not (getD worked p false)), sound .preceded-twice t h l)

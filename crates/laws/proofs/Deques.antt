@@ -11,7 +11,7 @@ use lib.ListN.{length, getD, take, drop, set, replicate, take-append-drop}
 use borrow.Author.Tests.{eqb-true, eq-eqb}
 use Rattle.model.specs.Tests.{keep, is-empty, member, occurrences}
 use Rattle.lists.proofs.Tests.{true-is-not-false}
-use Rattle.lists.proofs.Lists.{at-place, member-is}
+use Rattle.lists.proofs.Lists.{member-is}
 use Rattle.laws.specs.Invariants.{in-deques, busy}
 
 -- ---- how often a number stands in a list
@@ -34,29 +34,6 @@ found t (x ∷ xs) h = go (eqb t x) refl (found t xs) h
     go : (b : Bool) → eqb t x ≡ b → (1 ≤ occurrences t xs → List·Memᴰ t xs) → 1 ≤ cond b 1 0 + occurrences t xs → List·Memᴰ t (x ∷ xs)
     go true e onward h = List·Memᴰ·head (eqb-true t x e)
     go false e onward h = List·Memᴰ·tail (onward (omega arith))
-
--- ---- places in a list
-
--- x stands at the head and once more
-twice : (x : ℕ) (xs : List ℕ) (j : ℕ) → j < length xs → x ≡ getD xs j 0 → occurrences x (x ∷ xs) ≤ 1 → ⊥
-unfolding occurrences
-twice x xs j l e h =
-    let more : 1 ≤ occurrences x xs = rw e (occurs (getD xs j 0) xs (at-place xs j l)) in
-    let one : cond {A = ℕ} (eqb x x) 1 0 ≡ 1 = rw (eq-eqb x x refl) refl in
-    omega arith
-
--- where each number stands at most once its place is one
-pub place-once : (xs : List ℕ) → ((t : ℕ) → occurrences t xs ≤ 1) → (i j : ℕ) → i < length xs → j < length xs → getD xs i 0 ≡ getD xs j 0 →
-    i ≡ j
-place-once [] h i j l m e = absurd (not-suc-le-zero l)
-place-once (x ∷ xs) h zero zero l m e = refl
-place-once (x ∷ xs) h zero (suc j) l m e = absurd (twice x xs j (le-of-suc-le-suc m) e (h x))
-place-once (x ∷ xs) h (suc i) zero l m e = absurd (twice x xs i (le-of-suc-le-suc l) (sym e) (h x))
-place-once (x ∷ xs) h (suc i) (suc j) l m e =
-    ap suc (place-once xs (λ t. fewer t) i j (le-of-suc-le-suc l) (le-of-suc-le-suc m) e)
-  where
-    fewer : (t : ℕ) → occurrences t xs ≤ 1
-    fewer t = unfold occurrences in omega (arith, h t)
 
 -- ---- membership
 

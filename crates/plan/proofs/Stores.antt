@@ -13,7 +13,7 @@ use lib.ListN.{length, getD, set, drop, length-set}
 use lib.Seq.{getD-set-same, getD-set-other}
 use Rattle.model.specs.Tests.{below, every, member}
 use Rattle.model.specs.Plan.{used-fields}
-use Rattle.memory.specs.Parts.{Parts, region, parts, with-pending}
+use Rattle.memory.specs.Parts.{Parts, region, parts, with-pending, with-spans}
 use Rattle.memory.proofs.Regions.{store-inside, store-above, store-below, store-pending, store-spans, first-at, pending-at}
 use Rattle.plan.specs.Headings.{Ends}
 use Rattle.plan.specs.Contracts.{noted, one-or-two, followed}
@@ -22,17 +22,6 @@ use Rattle.lists.proofs.Ranges.{every-below, every-from-one}
 use Rattle.plan.proofs.Facts.{FieldFacts, TargetFacts}
 
 -- ---- the two fields of the task t and its span stored
-
-abbrev pub with-fields : Parts → ℕ → ℕ → ℕ → ℕ → Parts
-with-fields p t first second its-span =
-    record {
-      first = set (p .first) t first;
-      second = set (p .second) t second;
-      next = p .next;
-      pending = p .pending;
-      ends = p .ends;
-      spans = set (p .spans) t its-span;
-    }
 
 abbrev with-two : Parts → ℕ → ℕ → ℕ → Parts
 with-two p t first second =
@@ -44,6 +33,9 @@ with-two p t first second =
       ends = p .ends;
       spans = p .spans;
     }
+
+abbrev pub with-fields : Parts → ℕ → ℕ → ℕ → ℕ → Parts
+with-fields p t first second its-span = with-spans (with-two p t first second) (set (p .spans) t its-span)
 
 two-stored : (memory : List ℕ) (t first second : ℕ) → t < 1024 →
     parts (set (set memory t first) (1024 + t) second) ≡ with-two (parts memory) t first second

@@ -16,7 +16,7 @@ use Rattle.model.specs.Machine.{Execution, cycle, cycles}
 use Rattle.lists.proofs.Tests.{and-left, and-right}
 use Rattle.laws.specs.Invariants.{Placed}
 use Rattle.laws.proofs.Placement.{turn-is-cycle}
-use Rattle.memory.specs.Parts.{Parts, parts, SamePlan}
+use Rattle.memory.specs.Parts.{parts, SamePlan}
 use Rattle.memory.specs.Words.{Numbers, numbers-in, SameTail}
 use Rattle.memory.specs.Graphs.{graph}
 use Rattle.memory.specs.View.{size-at, view}

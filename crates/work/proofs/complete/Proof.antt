@@ -1,8 +1,7 @@
 -- `work::complete` meets its contract.
 use borrow.Author.Needs.{needs}
-use Prim.Native.Nat.{_≤_, _<_}
+use Prim.Native.Nat.{_<_}
 use native.Mathlib.Omega.{arith}
-use Rattle.work.specs.Works.{LastTick}
 use Rattle.work.proofs.Working.{worker-here, task-here, own-filled, all-releasable, one-fits, one-waits}
 use Rattle.work.proofs.Working.{done, done-none, done-later, done-now}
 use Rattle.work.proofs.complete.Statement.{statement}
