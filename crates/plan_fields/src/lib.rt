@@ -150,10 +150,11 @@ pub fn task_of(a: u8, b: u8, c: u8) -> TaskFields
 pub fn lasting_of(a: u8, b: u8, c: u8, d: u8) -> TaskFields
     ensures { λ r. ⌜ TaskOf form-2 (four-bytes a b c d) r ⌝ }
 {
+    let f = task_of(a, b, c);
     TaskFields {
-        count: (a / 64) as usize,
-        first: (a as usize) % 64 * 32 + (b as usize) / 8,
-        second: (b as usize) % 8 * 256 + (c as usize),
+        count: f.count,
+        first: f.first,
+        second: f.second,
         ticks: d,
     }
 }
