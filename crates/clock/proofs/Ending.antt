@@ -2,7 +2,7 @@
 -- One law for each way out.
 -- Assumes nothing.
 use mathlib.Core.Path.{_≡_, refl, sym, _∙_}
-use mathlib.Core.Bool.{true, false, not, and-false}
+use mathlib.Core.Bool.{Bool, true, false, not, and-false}
 use mathlib.Core.List.{List}
 use Prim.Native.Nat.{ℕ, suc, _+_, _≤_}
 use native.Mathlib.Numerals.{add-one}
@@ -11,10 +11,12 @@ use lib.ListN.{length, set}
 use lib.Seq.{getD-set-same, getD-set-other}
 use borrow.Author.Tests.{eq-eqb, ne-eqb}
 use Rattle.model.specs.Tests.{count-set}
-use Rattle.model.specs.Machine.{finished, closes, closed}
+use Rattle.model.specs.Plan.{growth-with}
+use Rattle.model.specs.Statements.{GrowthMost}
+use Rattle.model.specs.Machine.{Wish, finished, closes, closed}
 use Rattle.quantum.specs.Closing.{Closed}
 use Rattle.memory.specs.Parts.{parts}
-use Rattle.memory.specs.Words.{word, word-count, numbers-in, open-in}
+use Rattle.memory.specs.Words.{word, word-count, numbers-in, growth-in, wish-in, open-in}
 use Rattle.memory.specs.View.{view}
 use Rattle.memory.specs.Sound.{worked-in}
 use Rattle.memory.specs.Jobs.{lent, job-plan, job-state}
@@ -22,15 +24,20 @@ use Rattle.memory.proofs.Views.{workers-shown, done-at-most, finished-shown}
 use Rattle.memory.proofs.Words.{row-of, by-words}
 use Rattle.clock.specs.Clock.{tick-counted, quantum-ended, TickEnded}
 
--- the tick counted, and the quantum closed besides, with the next desire
+-- the tick counted, and the quantum closed besides, with the next wish
 abbrev pub counted-words : List ℕ → List ℕ
 counted-words words = set words 16 (word words 16 + 1)
 
-abbrev pub closed-words : List ℕ → ℕ → List ℕ
-closed-words words desire = set (set (counted-words words) 13 desire) 15 0
+abbrev pub closed-words : List ℕ → Wish → List ℕ
+closed-words words wish = set (set (set (counted-words words) 19 (wish .power)) 13 (wish .desire)) 15 0
 
 pub counted-other : (words : List ℕ) (place : ℕ) → (place ≡ 16 → ⊥) → word (counted-words words) place ≡ word words place
 counted-other words place ne = getD-set-other words 16 place (word words 16 + 1) 0 ne
+
+-- R is a small number, in tenths or not
+pub growth-small : (in-tenths : Bool) (r : ℕ) → GrowthMost (growth-with in-tenths r) → r ≤ 31
+growth-small false r few = omega arith
+growth-small true r few = few
 
 -- where the quantum does not end, the tick is counted and nothing else is written
 stays-open : (words : List ℕ) → length words ≡ word-count → open-in words ≡ true → ((memory : List ℕ) →
@@ -74,16 +81,16 @@ module _ (words : List ℕ) (sized : length words ≡ word-count) (is-open : ope
 
 -- the quantum closes
 pub closed-ended : (words : List ℕ) → length words ≡ word-count → (word (counted-words words) 2 ≡ word (counted-words words) 0 → ⊥) →
-    word (counted-words words) 16 ≡ word (counted-words words) 12 → (desire : ℕ) →
-    Closed (word (counted-words words) 10) (word (counted-words words) 11) (word (counted-words words) 12) (word (counted-words words) 13)
-    (word (counted-words words) 1) (word (counted-words words) 7) desire → TickEnded words (closed-words words desire)
+    word (counted-words words) 16 ≡ word (counted-words words) 12 → (wish : Wish) →
+    Closed (growth-in (counted-words words)) (word (counted-words words) 11) (word (counted-words words) 12) (wish-in (counted-words words))
+    (word (counted-words words) 1) (word (counted-words words) 7) wish → TickEnded words (closed-words words wish)
 unfolding job-state quantum-ended closes closed job-plan
-closed-ended words sized undone last desire after =
+closed-ended words sized undone last wish after =
     by-words
     (λ (l : List ℕ). let counted = counted-words l in
     (word counted 2 ≡ word counted 0 → ⊥) → word counted 16 ≡ word counted 12 →
-    Closed (word counted 10) (word counted 11) (word counted 12) (word counted 13) (word counted 1) (word counted 7) desire →
-    TickEnded l (closed-words l desire))
+    Closed (growth-in counted) (word counted 11) (word counted 12) (wish-in counted) (word counted 1) (word counted 7) wish →
+    TickEnded l (closed-words l wish))
     (λ w left end next.
     record {
       shows = λ memory right.

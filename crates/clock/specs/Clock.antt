@@ -10,13 +10,13 @@ use Rattle.model.specs.Plan.{Plan, longest-quantum}
 use Rattle.model.specs.Machine.{State, most-workers, quantum-limit, opened, closes, closed}
 use Rattle.memory.specs.declared.Job.{Job}
 use Rattle.memory.specs.Parts.{parts}
-use Rattle.memory.specs.Words.{word-count, numbers-in, terms-in, desire-in, started-in, open-in, ticks-in, begun-in}
+use Rattle.memory.specs.Words.{word-count, numbers-in, terms-in, wish-in, started-in, open-in, ticks-in, begun-in}
 use Rattle.memory.specs.View.{view}
 use Rattle.memory.specs.Sound.{worked-in}
 use Rattle.memory.specs.Jobs.{lent, job-parts, job-numbers, job-plan, job-state}
 use Rattle.quantum.specs.Closing.{Closable}
 
--- only the desire and the words of the quantum may differ
+-- only the wish and the words of the quantum may differ
 pub record SameButClock (words words′ : List ℕ) : Type 0 where
   pub same-size : length words′ ≡ length words
   pub same-numbers : numbers-in words′ ≡ numbers-in words
@@ -30,7 +30,7 @@ quantum-opened g s =
     record {
       execution = s .execution;
       started = cond (eqb g 0) (s .started) true;
-      desire = s .desire;
+      wish = s .wish;
       quantum = opened 0;
       begun = suc (s .begun);
     }
@@ -53,7 +53,7 @@ tick-counted job =
     record {
       execution = view (job-parts job) (job-numbers job);
       started = started-in (job .words);
-      desire = desire-in (job .words);
+      wish = wish-in (job .words);
       quantum = opened (suc (ticks-in (job .words)));
       begun = begun-in (job .words);
     }
@@ -67,7 +67,7 @@ pub record Countable (words : List ℕ) : Type 0 where
   pub size : length words ≡ word-count
   pub its-quantum : open-in words ≡ true
   pub ticks-fit : ticks-in words < terms-in words .quantum-length
-  pub closable : Closable (terms-in words .responsiveness) (desire-in words) (numbers-in words .usage)
+  pub closable : Closable (terms-in words .growth) (wish-in words) (numbers-in words .usage)
   pub utilization-fits : terms-in words .utilization ≤ 100
   pub length-fits : terms-in words .quantum-length ≤ longest-quantum
   pub workers-fit : numbers-in words .workers ≤ most-workers

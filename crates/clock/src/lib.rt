@@ -1,5 +1,6 @@
 // A quantum in a job's words: it opens, its ticks are counted, and it closes.
 use memory::Words;
+use quantum::Wish;
 ghost use Rattle.clock.specs.Clock.{Openable, Opened, Countable, TickEnded};
 
 // An accepted grant of g opens a quantum.
@@ -29,14 +30,20 @@ pub fn end_tick(words: &mut Words)
     if words[memory::DONE] == tasks {
         return;
     }
-    let desire = quantum::next_desire(
+    let wish = Wish {
+        power: words[memory::POWER] as u8,
+        desire: words[memory::DESIRE] as u8,
+    };
+    let next = quantum::next_wish(
+        words[memory::IN_TENTHS] != 0,
         words[memory::RESPONSIVENESS] as u8,
         words[memory::UTILIZATION] as u8,
         words[memory::QUANTUM_LENGTH] as u16,
-        words[memory::DESIRE] as u8,
+        wish,
         words[memory::WORKERS] as u8,
         words[memory::USAGE],
     );
-    words[memory::DESIRE] = desire as u64;
+    words[memory::POWER] = next.power as u64;
+    words[memory::DESIRE] = next.desire as u64;
     words[memory::OPEN] = 0;
 }

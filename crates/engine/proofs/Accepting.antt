@@ -1,11 +1,13 @@
 -- The fresh job of an accepted plan shows the plan and the fresh state, and is reached by no calls.
 -- Assumes nothing.
 use mathlib.Core.Path.{_≡_, refl, sym, ap, _∙_}
-use mathlib.Core.Bool.{true, false}
+use mathlib.Core.Bool.{Bool, true, false, not}
 use mathlib.Core.List.{List, [], _∷_}
 use Prim.Native.Nat.{ℕ}
 use native.Mathlib.Omega.{arith}
+use lib.Dec.{eqb}
 use lib.ListN.{replicate, length-replicate}
+use mir.Val.{boolByte}
 use Rattle.model.specs.Tests.{below, count-set, zeros}
 use Rattle.model.specs.Questions.{accepted}
 use Rattle.model.specs.Plan.{Graph, Plan, tasks, predecessors, plan-of, plan-answer}
@@ -35,12 +37,18 @@ fresh-words h =
     h .tasks
     ∷ 0 ∷ 0 ∷ 0 ∷ 0 ∷ 0 ∷ 0 ∷ 0 ∷ 0 ∷ 0
     ∷ h .responsiveness ∷ h .utilization ∷ h .«quantum_length»
-    ∷ 1 ∷ 0 ∷ 0 ∷ 0 ∷ 0 ∷ []
+    ∷ 1 ∷ 0 ∷ 0 ∷ 0 ∷ 0
+    ∷ boolByte (h .«in_tenths») ∷ 0 ∷ []
+
+-- a flag that is stored as a number is the flag
+flag-kept : (b : Bool) → not (eqb (boolByte b) 0) ≡ b
+flag-kept true = refl
+flag-kept false = refl
 
 module _ (bytes : List ℕ) (h : Heading) (memory : List ℕ) (answer : plan-answer bytes ≡ accepted) (holds : Holds bytes h memory) where
   fresh-plan : job-plan (lent memory (fresh-words h)) ≡ plan-of bytes
   unfolding job-plan plan-view
-  fresh-plan = holds .shows
+  fresh-plan = rw (flag-kept (h .«in_tenths»)) (holds .shows)
 
   same-graph : graph (parts memory) (h .tasks) ≡ plan-of bytes .graph
   unfolding plan-view

@@ -88,6 +88,7 @@ module _ {plan : Plan} {calls : List Call} {memory words : List ℕ} (g : ℕ) (
             granted .tail .same-from 13 (omega arith),
             granted .tail .same-from 14 (omega arith),
             granted .tail .same-from 17 (omega arith),
+            granted .tail .same-from 19 (omega arith),
             granted .shown (job-state job) refl refl,
           )
           refl

@@ -1,19 +1,19 @@
 -- What is known of a job that calls reach: the laws of histories, said of its memory and words; and so the widths that its words fit.
 -- Assumes nothing.
-use mathlib.Core.Path.{_≡_, ap}
+use mathlib.Core.Path.{_≡_, sym, ap, subst}
 use mathlib.Core.List.{List}
 use Prim.Native.Nat.{_≤_}
 use native.Mathlib.Omega.{arith}
-use Rattle.model.specs.Plan.{Plan}
-use Rattle.model.specs.Machine.{State, Call}
+use Rattle.model.specs.Plan.{Growth, Plan}
+use Rattle.model.specs.Machine.{Wish, State, Call}
 use Rattle.model.specs.History.{run}
 use Rattle.model.specs.Statements.{SoundPlan, WithinBounds}
 use Rattle.laws.specs.Reached.{Arranged, Measured, CountsFit}
 use Rattle.laws.proofs.Theorems.{arranged, measured, counts-fit, desire-is-power}
 use Rattle.plan.proofs.Sound.{accepted-sound, within-bounds}
-use Rattle.quantum.specs.Closing.{Power}
+use Rattle.quantum.specs.Closing.{Desired}
 use Rattle.memory.specs.declared.Job.{Job}
-use Rattle.memory.specs.Words.{terms-in, desire-in}
+use Rattle.memory.specs.Words.{terms-in, wish-in}
 use Rattle.memory.specs.Jobs.{job-parts, job-numbers, job-plan, job-state}
 use Rattle.memory.proofs.Views.{tasks-shown, done-at-most, workers-shown}
 use Rattle.engine.specs.Reached.{AcceptedPlan, Reached, IsJob, InRange}
@@ -42,21 +42,23 @@ module _ {plan : Plan} {calls : List Call} {job : Job} (r : Reached plan calls j
   known-numbers =
       rw (r .its-state) (counts-fit (plan-sound (r .accepted-plan)) calls (plan-bounds (r .accepted-plan)))
 
-  -- the desire is a power of R
-  pub known-power : Power (terms-in (job .words) .responsiveness) (desire-in (job .words))
+  -- the desire is that of its power
+  pub known-wish : Desired (terms-in (job .words) .growth) (wish-in (job .words))
   unfolding job-plan job-state
-  known-power =
-      let power = desire-is-power (plan-sound (r .accepted-plan)) calls in
-      let same-responsiveness : terms-in (job .words) .responsiveness ≡ plan .terms .responsiveness =
-      ap (λ (p : Plan). p .terms .responsiveness) (r .its-plan) in
-      let same-desire : desire-in (job .words) ≡ run plan calls .state .desire = ap (λ (s : State). s .desire) (r .its-state) in
-      record {
-        responsive = known-sound .terms .responsive;
-        three-bits = known-bounds .responsiveness-most;
-        power = power .power;
-        is-power = rw (same-desire, same-responsiveness) (power .is-power);
-        at-most = rw same-desire (power .at-most);
-      }
+  known-wish =
+      let accepted-plan = r .accepted-plan in
+      let power = desire-is-power (plan-sound accepted-plan) calls in
+      let same-growth : plan .terms .growth ≡ terms-in (job .words) .growth = sym (ap (λ (p : Plan). p .terms .growth) (r .its-plan)) in
+      let same-wish : run plan calls .state .wish ≡ wish-in (job .words) = sym (ap (λ (s : State). s .wish) (r .its-state)) in
+      subst (λ (g : Growth). Desired g (wish-in (job .words))) same-growth
+      (subst (λ (w : Wish). Desired (plan .terms .growth) w) same-wish
+      (record {
+        responsive = plan-sound accepted-plan .terms .responsive;
+        few-bits = plan-bounds accepted-plan .growth-most;
+        is-power = power .is-power;
+        at-most = power .at-most;
+        power-at-most = power .power-at-most;
+      }))
 
   pub words-fit : InRange (job .words)
   unfolding job-plan job-state
@@ -70,6 +72,7 @@ module _ {plan : Plan} {calls : List Call} {job : Job} (r : Reached plan calls j
             rw (← workers-shown (job-parts job .next) (job-parts job .ends) (job-numbers job .workers))
             (known-measured .deques-at-most .workers);
         desire-fits = known-measured .wanted;
+        power-fits = known-wish .power-at-most;
       }
 
 -- for crates above, which show words as narrower numbers

@@ -35,6 +35,7 @@ plan-stays memory words memory′ words′ tail same-tasks same =
       tail .same-from 10 (omega arith),
       tail .same-from 11 (omega arith),
       tail .same-from 12 (omega arith),
+      tail .same-from 18 (omega arith),
       same .same-first,
       same .same-second,
       same-tasks,

@@ -28,7 +28,7 @@ use Rattle.clock.specs.Clock.{tick-counted, quantum-ended, Countable, TickEnded
 use Rattle.engine.specs.Reached.{Reached}
 use Rattle.engine.specs.Moves.{Moves}
 use Rattle.call_questions.proofs.Asking.{tick-asking}
-use Rattle.engine.proofs.Known.{known-sound, known-bounds, known-arranged, known-measured, known-numbers, known-power, words-fit}
+use Rattle.engine.proofs.Known.{known-sound, known-bounds, known-arranged, known-measured, known-numbers, known-wish, words-fit}
 use Rattle.engine.proofs.Moving.{plan-stays, accepted-moves}
 
 -- an open quantum's flag is set
@@ -120,16 +120,18 @@ module _ {plan : Plan} {calls : List Call} {memory words : List ℕ} (choices : 
     countable used same-workers =
         let left : ticks-in words < terms-in words .quantum-length = current .unclosed (facts .unfinished) in
         let responsiveness = tail .same-from 10 (omega arith) in
+        let in-tenths = tail .same-from 18 (omega arith) in
         let utilization = tail .same-from 11 (omega arith) in
         let its-length = tail .same-from 12 (omega arith) in
         let desire = tail .same-from 13 (omega arith) in
+        let power = tail .same-from 19 (omega arith) in
         record {
           size = tail .same-length ∙ r .words-sized;
           its-quantum = rw (tail .same-from 15 (omega arith)) is-open;
           ticks-fit = omega (arith, left, its-length, tail .same-from 16 (omega arith));
           closable =
               record {
-                desired = rw (responsiveness, desire) (known-power r);
+                desired = rw (in-tenths, responsiveness, power, desire) (known-wish r);
                 usage-fits = omega (arith, left, used, current .usage-so-far, known-bounds r .quantum-most);
               };
           utilization-fits = omega (arith, utilization, known-sound r .terms .percent);
@@ -157,6 +159,7 @@ module _ {plan : Plan} {calls : List Call} {memory words : List ℕ} (choices : 
             tail .same-from 14 (omega arith),
             tail .same-from 16 (omega arith),
             tail .same-from 17 (omega arith),
+            tail .same-from 19 (omega arith),
             is-open,
           )
           refl

@@ -8,7 +8,7 @@ use Rattle.model.specs.Plan.{Plan, plan-of, plan-answer}
 use Rattle.model.specs.Machine.{Call}
 use Rattle.model.specs.History.{run}
 use Rattle.memory.specs.declared.Job.{Job}
-use Rattle.memory.specs.Words.{word-count, numbers-in, desire-in}
+use Rattle.memory.specs.Words.{word-count, numbers-in, desire-in, wish-in}
 use Rattle.memory.specs.Graphs.{graph}
 use Rattle.memory.specs.Sound.{Sizes, Kept}
 use Rattle.memory.specs.Jobs.{lent, job-parts, job-numbers, job-plan, job-state}
@@ -42,3 +42,4 @@ pub record InRange (words : List ℕ) : Type 0 where
   pub done-fits : numbers-in words .done ≤ 1024
   pub workers-fit : numbers-in words .workers ≤ 64
   pub desire-fits : desire-in words ≤ 64
+  pub power-fits : wish-in words .power ≤ 22

@@ -25,6 +25,7 @@ pub fn accept(bytes: &[u8], memory: &mut Memory, words: &mut Words) -> PlanAnswe
         return answer;
     }
     let tasks = heading.tasks as u64;
+    let in_tenths = heading.in_tenths as u64;
     let responsiveness = heading.responsiveness as u64;
     let utilization = heading.utilization as u64;
     let length = heading.quantum_length as u64;
@@ -47,6 +48,8 @@ pub fn accept(bytes: &[u8], memory: &mut Memory, words: &mut Words) -> PlanAnswe
         0, // a quantum is open
         0, // its ticks
         0, // quanta begun
+        in_tenths,
+        0, // the power
     ];
     answer
 }

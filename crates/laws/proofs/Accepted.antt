@@ -23,7 +23,7 @@ pub record GrantAccepted (g : ℕ) (s : State) : Type 0 where
   pub unfinished : finished (s .execution) ≡ false
   pub idle-quantum : s .quantum ≡ idle
   pub more-quanta : s .begun < quantum-limit
-  pub wanted : g ≤ s .desire
+  pub wanted : g ≤ s .wish .desire
 
 pub record TickAccepted (choices : List ℕ) (s : State) : Type 0 where
   pub unfinished : finished (s .execution) ≡ false
@@ -50,7 +50,7 @@ grant-accepted g s h =
       unfinished = not-true (finished (s .execution)) (first .0);
       idle-quantum = is-idle (s .quantum) (second .0);
       more-quanta = ltb-true (s .begun) quantum-limit (third .0);
-      wanted = leb-true g (s .desire) (fourth .0);
+      wanted = leb-true g (s .wish .desire) (fourth .0);
     }
 
 pub tick-accepted : (choices : List ℕ) (s : State) → call-answer (ticks choices) s ≡ accepted → TickAccepted choices s

@@ -1,7 +1,7 @@
--- What one induction over the list of calls carries for demand 3: the open quantum agrees with the state, the desire is a count of the
--- ladder, the stack of unused quanta has one for each power below it, the balance of the mugs holds at that power, and the ticks of the
--- closed quanta are used. The open quantum's agreement gives that a quantum's end is recorded as the state judges it.
--- Assumes a ladder of desires.
+-- What one induction over the list of calls carries for demand 3: the open quantum agrees with the state, the desire is that of its power,
+-- the stack of unused quanta has one for each power below it, the balance of the mugs holds at that power, and the ticks of the closed
+-- quanta are used. The open quantum's agreement gives that a quantum's end is recorded as the state judges it.
+-- Assumes a sound plan.
 use mathlib.Core.Path.{_≡_, refl, sym}
 use mathlib.Core.Bool.{true}
 use mathlib.Core.List.{List}
@@ -12,45 +12,41 @@ use Rattle.model.specs.Machine.{Call, fresh, grant, ticked, closes, closed, tic
 use Rattle.model.specs.History.{History, beginning, history-grant, history-tick, history-step, run}
 use Rattle.model.specs.Statements.{SoundPlan, ending, EndsAsRecorded}
 use Rattle.laws.proofs.Accepted.{GrantAccepted, TickAccepted, tick-accepted}
-use Rattle.laws.proofs.Runs.{history-ticked, history-closed, by-moves}
+use Rattle.laws.proofs.Runs.{history-ticked, history-closed, tick-moves, by-moves}
 use Rattle.laws.proofs.Progress.{tick-progress}
-use Rattle.laws.proofs.Ladder.{Ladder}
+use Rattle.laws.proofs.Ladder.{ladder-of}
 use Rattle.laws.proofs.Powers.{Phase, phase-start, phase-granted, phase-ticked, phase-closed, at-end, OnLadder, ended}
 use Rattle.laws.proofs.PairingLaw.{Stacked, stacked-none, stacked-end}
 use Rattle.laws.proofs.MugLimitLaw.{Balance, balance-start, balance-granted, balance-ticked, balance-closed}
 use Rattle.laws.proofs.SpentLaw.{Paced, paced-start, paced-granted, paced-ticked, paced-closed}
 
-module _ (plan : Plan) (ladder : Ladder (plan .terms)) where
-  pub record Carried (h : History) : Type 0 where
-    pub phase : Phase h
-    pub power : ℕ
-    pub desire : OnLadder ladder (h .state .desire) power
-    pub stack : Stacked ladder (h .closed-quanta) power
-    pub balance : Balance ladder (h .state) (h .closed-quanta) power
-    pub pace : Paced (plan .terms .quantum-length) (h .state) (h .closed-quanta)
+pub record Carried (plan : Plan) (h : History) : Type 0 where
+  pub phase : Phase h
+  pub desire : OnLadder (plan .terms .growth) (h .state .wish)
+  pub stack : Stacked (plan .terms .growth) (h .closed-quanta) (h .state .wish .power)
+  pub balance : Balance (plan .terms) (h .state) (h .closed-quanta) (h .state .wish .power)
+  pub pace : Paced (plan .terms .quantum-length) (h .state) (h .closed-quanta)
 
-  carried-start : Carried (beginning plan)
+module _ {plan : Plan} (sound : SoundPlan plan) where
+  carried-start : Carried plan (beginning plan)
   unfolding beginning fresh
   carried-start =
       record {
         phase = phase-start plan;
-        power = 0;
-        desire = record { is-count = sym (ladder .starts); at-most = omega arith };
-        stack = stacked-none ladder;
-        balance = balance-start plan ladder;
+        desire = record { is-count = sym (ladder-of (plan .terms .growth) (sound .terms .responsive) .starts); at-most = omega arith };
+        stack = stacked-none (plan .terms .growth);
+        balance = balance-start plan;
         pace = paced-start plan;
       }
 
-module _ {plan : Plan} (sound : SoundPlan plan) (ladder : Ladder (plan .terms)) where
-  carried-granted : (g : ℕ) (h : History) → GrantAccepted g (h .state) → Carried plan ladder h → Carried plan ladder (history-grant g h)
+  carried-granted : (g : ℕ) (h : History) → GrantAccepted g (h .state) → Carried plan h → Carried plan (history-grant g h)
   unfolding history-grant grant
   carried-granted g h asked c =
       record {
         phase = phase-granted g h asked;
-        power = c .power;
         desire = c .desire;
         stack = c .stack;
-        balance = balance-granted plan ladder (h .state) (h .closed-quanta) (c .power) (c .balance) g (asked .idle-quantum);
+        balance = balance-granted plan (h .state) (h .closed-quanta) _ (c .balance) g (asked .idle-quantum);
         pace = paced-granted plan (h .state) (h .closed-quanta) (c .pace) g (asked .idle-quantum);
       }
 
@@ -59,46 +55,51 @@ module _ {plan : Plan} (sound : SoundPlan plan) (ladder : Ladder (plan .terms)) 
   still-open calls choices asked = phase-ticked plan choices (run plan calls) asked (tick-progress sound calls choices asked)
 
   carried-ticked : (calls : List Call) (choices : List ℕ) → TickAccepted choices (run plan calls .state) →
-      Carried plan ladder (run plan calls) → Carried plan ladder (history-ticked plan choices (run plan calls))
+      Carried plan (run plan calls) → Carried plan (history-ticked plan choices (run plan calls))
   unfolding ticked
   carried-ticked calls choices asked c =
       record {
         phase = still-open calls choices asked (c .phase);
-        power = c .power;
         desire = c .desire;
         stack = c .stack;
         balance =
-            balance-ticked plan ladder (run plan calls .state) (run plan calls .closed-quanta) (c .power) (c .balance) _
+            balance-ticked plan (run plan calls .state) (run plan calls .closed-quanta) _ (c .balance) _
             (asked .open-quantum)
             choices (asked .one-each);
         pace = paced-ticked plan _ _ (c .pace) _ (asked .open-quantum) choices (asked .one-each);
       }
 
-  carried-closed : (h : History) → closes plan (h .state) ≡ true → Carried plan ladder h → Carried plan ladder (history-closed plan h)
+  carried-closed : (h : History) → closes plan (h .state) ≡ true → Carried plan h → Carried plan (history-closed plan h)
   carried-closed h closing c =
       let here = at-end plan (sound .terms) h closing (c .phase) in
-      let next = ended plan (sound .terms) ladder (h .state) (here .no-more) (here .used) (c .power) (c .desire) in
+      let next = ended plan (sound .terms) (h .state) (here .no-more) (here .used) (c .desire) in
       record {
         phase = phase-closed plan h;
-        power = next .after;
         desire = next .power;
         stack =
             rw (here .verdict-is)
-            (stacked-end ladder (h .closed-quanta) (ending plan (h .state)) (h .state .execution .counts .usage) (c .power) (next .after)
-            (c .desire .is-count) (next .end) (c .stack));
+            (stacked-end (plan .terms .growth) (h .closed-quanta) (ending plan (h .state)) (c .desire .is-count)
+            (h .state .execution .counts .usage) _ _ refl (next .end) (c .stack));
         balance =
             rw (here .verdict-is)
-            (balance-closed plan ladder (h .state) (h .closed-quanta) (c .power) (c .balance) _ (here .open-at-end) (next .after)
-            (here .no-more) (c .desire .is-count) (next .end));
+            (balance-closed plan (h .state) (h .closed-quanta) _ (c .balance) _ (here .open-at-end)
+            (ladder-of (plan .terms .growth) (sound .terms .responsive)) _ (here .no-more) (c .desire .is-count) (next .end));
         pace = rw (here .verdict-is) (paced-closed plan (h .state) (h .closed-quanta) (c .pace) _ (here .open-at-end) (here .used));
       }
 
-  pub carried : (calls : List Call) → Carried plan ladder (run plan calls)
+  -- after any calls; and after a tick that is accepted then
+  pub carried : (calls : List Call) → Carried plan (run plan calls)
   carried =
-      by-moves plan (Carried plan ladder) (carried-start plan ladder)
+      by-moves plan (Carried plan) carried-start
       (λ calls g asked c. carried-granted g (run plan calls) asked c)
       carried-ticked
       carried-closed
+
+  pub carried-tick : (calls : List Call) (choices : List ℕ) → TickAccepted choices (run plan calls .state) →
+      Carried plan (history-tick plan choices (run plan calls))
+  carried-tick calls choices asked =
+      let q = carried-ticked calls choices asked (carried calls) in
+      tick-moves plan (Carried plan) choices (run plan calls) q (λ closing. carried-closed _ closing q)
 
   -- the quantum that a tick closes was begun with the desire and the allotment that the state still shows
   pub ends-as-recorded : (calls : List Call) → EndsAsRecorded plan (run plan calls)

@@ -2,34 +2,28 @@
 -- count granted so far (`largest-bounds`) and at most 64, and how large each count can be (`measured`, `counts-fit`).
 -- Assumes nothing.
 use mathlib.Core.Path.{_≡_, refl, sym, ap, _∙_}
-use mathlib.Core.Bool.{Bool, true, false, cond, not, _&&_}
+use mathlib.Core.Bool.{Bool, true, false}
 use mathlib.Core.List.{List, [], _∷_, _++_}
-use Prim.Native.Nat.{ℕ, zero, suc, _+_, _*_, _≤_, max}
-use native.Mathlib.Nat.{mul-suc, mul-le-mul, div-le-self}
+use Prim.Native.Nat.{ℕ, zero, suc, _≤_, max}
 use native.Mathlib.Omega.{arith}
-use lib.Dec.{eqb, leb}
 use lib.ListN.{length}
-use borrow.Author.Tests.{eqb-false, ne-eqb, leb-true}
+use borrow.Author.Tests.{ne-eqb}
 use Rattle.model.specs.Tests.{total}
-use Rattle.model.specs.Plan.{Plan, Terms, tasks, longest-duration}
-use Rattle.model.specs.Machine.{worked, Execution, State, allotment, idle, opened, ticks-of, fresh, grant, cycles, cycles-made, tick}
-use Rattle.model.specs.Machine.{ticked, closes, closed, finished, most-workers, next-desire, Call, efficient-now, satisfied-now}
+use Rattle.model.specs.Plan.{Plan, tasks}
+use Rattle.model.specs.Machine.{worked, Execution, State, allotment, idle, opened, fresh, grant, cycles, cycles-made, tick}
+use Rattle.model.specs.Machine.{ticked, closed, Call}
 use Rattle.model.specs.History.{ClosedQuantum, CurrentQuantum, none, begun-with, History, beginning, history-grant, history-tick, verdict}
 use Rattle.model.specs.History.{run}
-use Rattle.model.specs.Statements.{SoundPlan, WithinBounds}
+use Rattle.model.specs.Statements.{SoundPlan}
 use Rattle.laws.specs.Invariants.{busy, Placed, Bounded, Tallied}
-use Rattle.model.specs.WholeTicks.{all-counted}
-use Rattle.laws.specs.Reached.{Unstarted, Arranged, granted-in, largest-closed, largest-granted, OpenQuantum, Measured}
-use Rattle.laws.specs.Reached.{CountsFit}
+use Rattle.laws.specs.Reached.{Unstarted, Arranged, granted-in, largest-closed, largest-granted}
 use Rattle.lists.proofs.Tests.{true-is-not-false}
-use Rattle.lists.proofs.Sums.{zeros-length, total-at-most}
-use Rattle.laws.proofs.Cycles.{cycles-allotment}
+use Rattle.lists.proofs.Sums.{zeros-length}
 use Rattle.laws.proofs.Placement.{cycles-placed, cycles-tallied}
 use Rattle.laws.proofs.Bounds.{bounded-more, cycles-bounded}
-use Rattle.laws.proofs.Grants.{grant-allotment, grant-placed, grant-bounded, first-grant-placed, first-grant-bounded}
+use Rattle.laws.proofs.Grants.{grant-placed, grant-bounded, first-grant-placed, first-grant-bounded}
 use Rattle.laws.proofs.Grants.{no-grant-unstarted}
-use Rattle.laws.proofs.Meaning.{cycles-counted, all-kinds, successes-are-steals, one-cycle-each}
-use Rattle.laws.proofs.Accepted.{GrantAccepted, TickAccepted, tick-cases, tick-execution, tick-started}
+use Rattle.laws.proofs.Accepted.{TickAccepted, tick-execution, tick-started}
 use Rattle.laws.proofs.Runs.{history-closed, run-keeps, by-moves}
 
 -- ---- where the tasks stand
@@ -128,7 +122,7 @@ module _ {plan : Plan} {s : State} (a : Arranged plan s) where
 
 -- ---- how many deques
 
-unstarted-bounded : {plan : Plan} {e : Execution} (most : ℕ) → Unstarted plan e → Bounded most e
+pub unstarted-bounded : {plan : Plan} {e : Execution} (most : ℕ) → Unstarted plan e → Bounded most e
 unfolding busy
 unstarted-bounded {plan} {e} most u =
     let a : length (e .deques) ≡ 0 = ap length (u .no-deques) in
@@ -153,9 +147,9 @@ largest-append (q ∷ xs) ys = omega (arith, largest-append xs ys)
 largest-verdict : (plan : Plan) (current : CurrentQuantum) (usage : ℕ) → largest-closed (verdict plan current usage) ≡ granted-in current
 unfolding largest-closed
 largest-verdict plan none usage = refl
-largest-verdict plan (begun-with wanted granted) usage = omega arith
+largest-verdict plan (begun-with wish granted) usage = omega arith
 
-not-idle : {k : ℕ} → opened k ≡ idle → ⊥
+pub not-idle : {k : ℕ} → opened k ≡ idle → ⊥
 not-idle p = let z : _≡_ {A = ℕ} 0 1 = cc in omega arith
 
 record Largest (h : History) : Type 0 where
@@ -197,167 +191,3 @@ module _ {plan : Plan} (sound : SoundPlan plan) where
   -- the workers' non-empty deques and the muggable ones number at most the largest count granted so far
   pub largest-bounds : (calls : List Call) → Bounded (largest-granted (run plan calls)) (run plan calls .state .execution)
   largest-bounds calls = largest calls .at-most
-
--- ---- how large the counts can be
-
--- no rule takes the desire above 64
-desire-at-most : (terms : Terms) (desire : ℕ) (e s : Bool) → desire ≤ most-workers → next-desire terms desire e s ≤ most-workers
-unfolding next-desire
-desire-at-most terms desire false s h = omega (arith, div-le-self desire (terms .responsiveness))
-desire-at-most terms desire true true h = go (leb (desire * terms .responsiveness) most-workers) refl
-  where
-    go : (b : Bool) → leb (desire * terms .responsiveness) most-workers ≡ b → cond b (desire * terms .responsiveness) desire ≤ most-workers
-    go true e = leb-true (desire * terms .responsiveness) most-workers e
-    go false e = h
-desire-at-most terms desire true false h = h
-
-not-opened : {k : ℕ} → idle ≡ opened k → ⊥
-not-opened p = not-idle (sym p)
-
-opened-with : {j k : ℕ} → opened j ≡ opened k → j ≡ k
-opened-with p = cc
-
-module _ {plan : Plan} (sound : SoundPlan plan) where
-  pub fresh-measured : Measured plan (fresh plan)
-  unfolding fresh
-  fresh-measured =
-      record {
-        wanted = omega arith;
-        deques-at-most = unstarted-bounded most-workers (fresh-arranged sound .before refl);
-        quanta = omega arith;
-        current = λ k p. absurd (not-opened p);
-        usage-at-most = omega arith;
-        cycles-at-most = omega arith;
-        successful = omega arith;
-      }
-
-  pub grant-measured : {s : State} → Arranged plan s → Measured plan s → (g : ℕ) → GrantAccepted g s → Measured plan (grant g s)
-  grant-measured {s} a m g t =
-      unfold grant in
-      record {
-        wanted = m .wanted;
-        deques-at-most = bounded-more (omega (arith, t .wanted, m .wanted)) (arranged-grant-bounded a (m .deques-at-most) g);
-        quanta = t .more-quanta;
-        current = λ k p.
-            let none-yet = opened-with p in
-            let room-more = mul-suc (plan .terms .quantum-length) (s .begun) in
-            record {
-              within = omega arith;
-              unclosed = λ f. omega (arith, sound .terms .timed);
-              granted = omega (arith, grant-allotment g s, t .wanted);
-              usage-so-far = omega arith;
-              room = omega (arith, m .cycles-at-most);
-            };
-        usage-at-most = omega arith;
-        cycles-at-most = omega (arith, m .cycles-at-most, mul-suc (plan .terms .quantum-length) (s .begun));
-        successful = m .successful;
-      }
-
-  pub tick-measured : {s : State} → Measured plan s → (choices : List ℕ) → TickAccepted choices s → Measured plan (tick plan choices s)
-  tick-measured {s} m choices t =
-      tick-cases plan choices s (Measured plan)
-      (λ c. unfold ticked closed in
-      record {
-        wanted = desire-at-most (plan .terms) (s .desire) (efficient-now plan (ticked plan choices s))
-            (satisfied-now (ticked plan choices s)) (m .wanted);
-        deques-at-most = bound;
-        quanta = m .quanta;
-        current = λ k p. absurd (not-opened p);
-        usage-at-most = omega (arith, used, o .unclosed (t .unfinished), o .usage-so-far, few);
-        cycles-at-most = omega (arith, more, o .unclosed (t .unfinished), o .room, few);
-        successful = succeeded;
-      })
-      (λ c. unfold ticked in
-      record {
-        wanted = m .wanted;
-        deques-at-most = bound;
-        quanta = m .quanta;
-        current = λ k p.
-            let next = opened-with p in
-            let open-before = o .unclosed (t .unfinished) in
-            record {
-              within = omega arith;
-              unclosed = λ f. omega (arith, not-yet c f);
-              granted = omega (arith, same-allotment, o .granted);
-              usage-so-far = omega (arith, used, o .usage-so-far, few);
-              room = omega (arith, more, o .room, few);
-            };
-        usage-at-most = omega (arith, used, o .unclosed (t .unfinished), o .usage-so-far, few);
-        cycles-at-most = omega (arith, more, o .unclosed (t .unfinished), o .room, few);
-        successful = succeeded;
-      })
-    where
-      e : Execution
-      e = s .execution
-
-      k : ℕ
-      k = ticks-of (s .quantum)
-
-      after : Execution
-      after = cycles (plan .graph) 0 choices e
-
-      o : OpenQuantum plan s k
-      o = m .current k (t .open-quantum)
-
-      fits : 0 + length choices ≤ length (e .deques)
-      fits = omega (arith, t .one-each)
-
-      few : length (cycles-made (plan .graph) 0 choices e) ≤ most-workers
-      few = omega (arith, one-cycle-each (plan .graph) choices 0 e, t .one-each, m .deques-at-most .workers)
-
-      used : after .counts .usage ≤ e .counts .usage + length (cycles-made (plan .graph) 0 choices e)
-      used = omega (arith, cycles-counted (plan .graph) 0 choices e fits .nonsteal-usage, all-kinds (cycles-made (plan .graph) 0 choices e))
-
-      more : all-counted (after .counts) ≡ all-counted (e .counts) + length (cycles-made (plan .graph) 0 choices e)
-      more =
-          let c = cycles-counted (plan .graph) 0 choices e fits in
-          omega (arith, c .work, c .mug, c .steal, all-kinds (cycles-made (plan .graph) 0 choices e))
-
-      succeeded : after .counts .successes ≤ after .counts .steals .steal
-      succeeded =
-          let c = cycles-counted (plan .graph) 0 choices e fits in
-          omega (arith, c .success, c .steal, successes-are-steals (cycles-made (plan .graph) 0 choices e), m .successful)
-
-      bound : Bounded most-workers after
-      bound = cycles-bounded (plan .graph) (m .deques-at-most) 0 choices fits
-
-      same-allotment : length (after .deques) ≡ length (e .deques)
-      same-allotment = cycles-allotment (plan .graph) choices 0 e fits
-
-      not-yet : closes plan (ticked plan choices s) ≡ false → finished after ≡ false → suc k ≡ plan .terms .quantum-length → ⊥
-      not-yet c f = eqb-false (suc k) (plan .terms .quantum-length) (go (finished after) f (unfold closes ticked in c))
-        where
-          go : (b : Bool) → b ≡ false → (not b && eqb (suc k) (plan .terms .quantum-length)) ≡ false →
-              eqb (suc k) (plan .terms .quantum-length) ≡ false
-          go false p q = q
-          go true p q = absurd (true-is-not-false refl p)
-
-  pub measured : (calls : List Call) → Measured plan (run plan calls .state)
-  unfolding beginning history-grant history-tick
-  measured calls =
-      run-keeps plan (λ h. Measured plan (h .state))
-      fresh-measured
-      (λ done g t m. grant-measured (arranged sound done) m g t)
-      (λ done choices t m. tick-measured m choices t)
-      calls
-
--- ---- in numbers
-
-pub counts-fit : {plan : Plan} → SoundPlan plan → WithinBounds plan → (calls : List Call) → CountsFit (run plan calls .state)
-counts-fit {plan} sound widths calls =
-    let m = measured sound calls in
-    let product = mul-le-mul (widths .quantum-most) (m .quanta) in
-    record {
-      work =
-          omega (
-            arith,
-            work-at-most (arranged sound calls),
-            total-at-most longest-duration (plan .durations) (widths .durations-most),
-            sound .each-lasts,
-            widths .tasks-most,
-          );
-      usage = omega (arith, m .usage-at-most, widths .quantum-most);
-      all-cycles = omega (arith, m .cycles-at-most);
-      successes = omega (arith, m .cycles-at-most, m .successful);
-      begun = m .quanta;
-    }

@@ -9,13 +9,13 @@ use Prim.Native.Nat.{ℕ, zero, suc, _+_, _-_, _*_, _≤_, _<_}
 use native.Mathlib.Omega.{arith}
 use native.Mathlib.Nat.{mul-zero, mul-add, mul-one, mul-comm, mul-assoc, mul-sub, mul-right-comm, mul-le-mul-left, mul-le-mul-right}
 use lib.ListN.{length}
-use Rattle.model.specs.Plan.{Plan, Terms}
-use Rattle.model.specs.Machine.{State, Quantum, idle, opened, allotment, fresh, grant, ticked, closed}
-use Rattle.model.specs.History.{ClosedQuantum, History, work-count, mug-count}
-use Rattle.model.specs.Statements.{MugLimit, MugBound, ending}
+use Rattle.model.specs.Plan.{Growth, by-factor, by-tenths, Plan, Terms}
+use Rattle.model.specs.Machine.{State, Quantum, idle, opened, allotment, fresh, grant, ticked, closed, desire-at}
+use Rattle.model.specs.History.{ClosedQuantum, History}
+use Rattle.model.specs.Statements.{Limit, MugLimit, Bound, MugBound, ending}
 use Rattle.laws.proofs.Grants.{withdrawn-at-most}
 use Rattle.laws.proofs.Counting.{spent, cycles-spend}
-use Rattle.laws.proofs.Ladder.{Ladder, power-ladder}
+use Rattle.laws.proofs.Ladder.{Ladder, parts, gain}
 use Rattle.laws.proofs.Powers.{QuantumEnd, lowers, raises, stays}
 
 -- ---- the balance
@@ -26,16 +26,16 @@ granted-sum [] = 0
 granted-sum (q ∷ quanta) = q .granted + granted-sum quanta
 
 -- what is set aside at the power k of a ladder: the desires of the powers 1 to k
-unfoldable pub reserve : {terms : Terms} → Ladder terms → ℕ → ℕ
-reserve ladder zero = 0
-reserve ladder (suc k) = reserve ladder k + ladder .count (suc k)
+unfoldable pub reserve : Growth → ℕ → ℕ
+reserve growth zero = 0
+reserve growth (suc k) = reserve growth k + desire-at growth (suc k)
 
 -- what a worker of a closed quantum costs, and what a work or mug cycle pays
-abbrev pub cost : {terms : Terms} → Ladder terms → ℕ
-cost {terms} ladder = terms .utilization * terms .quantum-length * ladder .parts
+abbrev pub cost : Terms → ℕ
+cost terms = terms .utilization * terms .quantum-length * parts (terms .growth)
 
-abbrev pub pay : {terms : Terms} → Ladder terms → ℕ
-pay ladder = 100 * (ladder .parts + ladder .gain)
+abbrev pub pay : Terms → ℕ
+pay terms = 100 * (parts (terms .growth) + gain (terms .growth))
 
 -- how many workers a coming grant may withdraw
 abbrev pub coming : Quantum → ℕ → ℕ
@@ -47,11 +47,11 @@ abbrev pub unsettled : Quantum → ℕ → ℕ
 unsettled idle usage = 0
 unsettled (opened t) usage = usage
 
-pub record Balance {terms : Terms} (ladder : Ladder terms) (s : State) (quanta : List ClosedQuantum) (k : ℕ) : Type 0 where
+pub record Balance (terms : Terms) (s : State) (quanta : List ClosedQuantum) (k : ℕ) : Type 0 where
   pub covered : s .execution .counts .mugs .mug + length (s .execution .muggable) + coming (s .quantum) (allotment s) ≤ granted-sum quanta
   pub paid :
-      cost ladder * (granted-sum quanta + reserve ladder k) + pay ladder * unsettled (s .quantum) (s .execution .counts .usage)
-      ≤ pay ladder * spent (s .execution)
+      cost terms * (granted-sum quanta + reserve (terms .growth) k) + pay terms * unsettled (s .quantum) (s .execution .counts .usage)
+      ≤ pay terms * spent (s .execution)
 
 pub granted-sum-snoc : (quanta : List ClosedQuantum) (q : ClosedQuantum) → granted-sum (quanta ++ q ∷ []) ≡ granted-sum quanta + q .granted
 unfolding granted-sum
@@ -94,34 +94,37 @@ module _ (p d r sum rest g u n : ℕ) where
       omega (arith, paid-raise 0 (omega arith) enough before)
 
 -- any end: the quantum q of the usage u joins the closed ones
-paid-end : {terms : Terms} (ladder : Ladder terms) (q : ClosedQuantum) (sum u n k after : ℕ) → q .granted ≤ q .wanted →
-    q .wanted ≡ ladder .count k → QuantumEnd terms q u k after → cost ladder * (sum + reserve ladder k) + pay ladder * u ≤ pay ladder * n →
-    cost ladder * (sum + q .granted + reserve ladder after) ≤ pay ladder * n
+paid-end : (terms : Terms) (ladder : Ladder (terms .growth)) (q : ClosedQuantum) (sum u n k after : ℕ) → q .granted ≤ q .wanted →
+    q .wanted ≡ desire-at (terms .growth) k → QuantumEnd terms q u k after →
+    cost terms * (sum + reserve (terms .growth) k) + pay terms * u ≤ pay terms * n →
+    cost terms * (sum + q .granted + reserve (terms .growth) after) ≤ pay terms * n
 unfolding reserve
-paid-end ladder q sum u n k after few is-count (lowers {k = j} inefficient more-than-one) before =
-    paid-lower _ (ladder .parts) (ladder .gain) sum (reserve ladder j) (q .granted) u n _ (omega arith) before
-paid-end ladder q sum u n k after few is-count (raises {k = j} is-efficient is-satisfied all enough) before =
-    let cheap : ladder .count (suc j) * ladder .parts ≤ q .granted * ladder .gain = rw (all, is-count) (ladder .costs j) in
-    paid-raise _ (ladder .parts) (ladder .gain) sum (reserve ladder j) (q .granted) u n _ cheap enough before
-paid-end ladder q sum u n k after few is-count (stays {k = j} is-efficient enough) before =
-    paid-stay _ (ladder .parts) (ladder .gain) sum (reserve ladder j) (q .granted) u n enough before
+paid-end terms ladder q sum u n k after few is-count (lowers {k = j} inefficient more-than-one) before =
+    paid-lower _ (parts (terms .growth)) (gain (terms .growth)) sum (reserve (terms .growth) j) (q .granted) u n _ (omega arith) before
+paid-end terms ladder q sum u n k after few is-count (raises {k = j} is-efficient is-satisfied all enough) before =
+    let cheap : desire-at (terms .growth) (suc j) * parts (terms .growth) ≤ q .granted * gain (terms .growth) =
+    rw (all, is-count) (ladder .costs j) in
+    paid-raise _ (parts (terms .growth)) (gain (terms .growth)) sum (reserve (terms .growth) j) (q .granted) u n _ cheap enough before
+paid-end terms ladder q sum u n k after few is-count (stays {k = j} is-efficient enough) before =
+    paid-stay _ (parts (terms .growth)) (gain (terms .growth)) sum (reserve (terms .growth) j) (q .granted) u n enough before
 
 -- ---- every move keeps it
 
-pub balance-start : (plan : Plan) (ladder : Ladder (plan .terms)) → Balance ladder (fresh plan) [] 0
+pub balance-start : (plan : Plan) → Balance (plan .terms) (fresh plan) [] 0
 unfolding fresh granted-sum reserve
-balance-start plan ladder = record { covered = omega arith; paid = omega (arith, mul-zero (cost ladder), mul-zero (pay ladder)) }
+balance-start plan =
+    record { covered = omega arith; paid = omega (arith, mul-zero (cost (plan .terms)), mul-zero (pay (plan .terms))) }
 
-module _ (plan : Plan) (ladder : Ladder (plan .terms)) (s : State) (quanta : List ClosedQuantum) (k : ℕ) (b : Balance ladder s quanta k)
+module _ (plan : Plan) (s : State) (quanta : List ClosedQuantum) (k : ℕ) (b : Balance (plan .terms) s quanta k)
   where
     -- a grant withdraws no more workers than there were
-    pub balance-granted : (g : ℕ) → s .quantum ≡ idle → Balance ladder (grant g s) quanta k
+    pub balance-granted : (g : ℕ) → s .quantum ≡ idle → Balance (plan .terms) (grant g s) quanta k
     unfolding grant
     balance-granted g is-idle =
         let may-go = ap (λ q. coming q (allotment s)) is-idle in
         record {
           covered = omega (arith, b .covered, withdrawn-at-most g s, may-go);
-          paid = omega (arith, b .paid, mul-zero (pay ladder));
+          paid = omega (arith, b .paid, mul-zero (pay (plan .terms)));
         }
 
     -- while a quantum is open no worker may go, and its usage is not settled
@@ -129,12 +132,13 @@ module _ (plan : Plan) (ladder : Ladder (plan .terms)) (s : State) (quanta : Lis
       none-goes : coming (s .quantum) (allotment s) ≡ 0
       none-goes = ap (λ q. coming q (allotment s)) is-open
 
-      open-paid : cost ladder * (granted-sum quanta + reserve ladder k) + pay ladder * s .execution .counts .usage
-          ≤ pay ladder * spent (s .execution)
+      open-paid :
+          cost (plan .terms) * (granted-sum quanta + reserve (plan .terms .growth) k) + pay (plan .terms) * s .execution .counts .usage
+          ≤ pay (plan .terms) * spent (s .execution)
       open-paid = rw (ap (λ q. unsettled q (s .execution .counts .usage)) is-open) at (b .paid)
 
       -- a tick's usage is both unsettled and spent, and a mug cycle takes one muggable deque away
-      pub balance-ticked : (choices : List ℕ) → length choices ≡ allotment s → Balance ladder (ticked plan choices s) quanta k
+      pub balance-ticked : (choices : List ℕ) → length choices ≡ allotment s → Balance (plan .terms) (ticked plan choices s) quanta k
       unfolding ticked
       balance-ticked choices one-each =
           let counted = cycles-spend (plan .graph) 0 choices (s .execution) (omega arith) in
@@ -144,15 +148,18 @@ module _ (plan : Plan) (ladder : Ladder (plan .terms)) (s : State) (quanta : Lis
           }
 
       -- the end settles the quantum's usage and adds its allotment
-      pub balance-closed : (after : ℕ) → allotment s ≤ s .desire → s .desire ≡ ladder .count k →
+      pub balance-closed : Ladder (plan .terms .growth) → (after : ℕ) → allotment s ≤ s .wish .desire →
+          s .wish .desire ≡ desire-at (plan .terms .growth) k →
           QuantumEnd (plan .terms) (ending plan s) (s .execution .counts .usage) k after →
-          Balance ladder (closed plan s) (quanta ++ ending plan s ∷ []) after
+          Balance (plan .terms) (closed plan s) (quanta ++ ending plan s ∷ []) after
       unfolding closed
-      balance-closed after few is-count end =
-          let settled = paid-end ladder (ending plan s) (granted-sum quanta) _ (spent (s .execution)) k after few is-count end open-paid in
+      balance-closed ladder after few is-count end =
+          let settled =
+          paid-end (plan .terms) ladder (ending plan s) (granted-sum quanta) _ (spent (s .execution)) k after few is-count end
+          open-paid in
           record {
             covered = omega (arith, b .covered, none-goes, granted-sum-snoc quanta (ending plan s));
-            paid = rw granted-sum-snoc (omega (arith, settled, mul-zero (pay ladder)));
+            paid = rw granted-sum-snoc (omega (arith, settled, mul-zero (pay (plan .terms))));
           }
 
 -- ---- the limit
@@ -164,29 +171,29 @@ limit-of m l d c sum n price few enough =
     let turned : m * l * d * c ≡ d * l * c * m = rw (mul-assoc m l d, mul-comm m (l * d), mul-comm l d, mul-right-comm (d * l) m c) in
     omega arith
 
--- what the balance says of the mugs on any ladder
-pub ladder-limit : {terms : Terms} (ladder : Ladder terms) (h : History) (quanta : List ClosedQuantum) (k : ℕ) →
-    Balance ladder (h .state) quanta k →
-    mug-count h * terms .quantum-length * terms .utilization * ladder .parts ≤ pay ladder * (work-count h + mug-count h)
-ladder-limit {terms} ladder h quanta k b =
-    limit-of _ (terms .quantum-length) (terms .utilization) (ladder .parts) (granted-sum quanta + reserve ladder k) _ _
+-- what the balance says of the mugs, whatever the growth; and in each growth's words
+limited : (growth : Growth) (m l d both : ℕ) → m * l * d * parts growth ≤ 100 * (parts growth + gain growth) * both →
+    Limit growth m l d both
+limited (by-factor r) m l d both limit = omega (arith, mul-one (m * l * d))
+limited (by-tenths t) m l d both limit = limit
+
+pub mug-limit-of : (plan : Plan) (h : History) (quanta : List ClosedQuantum) (k : ℕ) → Balance (plan .terms) (h .state) quanta k →
+    MugLimit plan h
+mug-limit-of plan h quanta k b =
+    let terms = plan .terms in
+    limited (terms .growth) _ (terms .quantum-length) (terms .utilization) _
+    (limit-of _ (terms .quantum-length) (terms .utilization) (parts (terms .growth)) (granted-sum quanta + reserve (terms .growth) k) _ _
     (omega (arith, b .covered))
-    (omega (arith, b .paid))
+    (omega (arith, b .paid)))
 
--- .. and on that of the powers of R
-pub mug-limit-of : (plan : Plan) (responsive : 2 ≤ plan .terms .responsiveness) (h : History) (quanta : List ClosedQuantum) (k : ℕ) →
-    Balance (power-ladder (plan .terms) responsive) (h .state) quanta k → MugLimit plan h
-mug-limit-of plan responsive h quanta k b =
-    omega (
-      arith,
-      ladder-limit (power-ladder (plan .terms) responsive) h quanta k b,
-      mul-one (mug-count h * plan .terms .quantum-length * plan .terms .utilization),
-    )
+-- where a mug costs more than it pays, the work alone bounds the mugs
+bound-of : (m w e price : ℕ) → m * e ≤ price * (w + m) → price < e → m * (e - price) ≤ price * w
+bound-of m w e price limit large = omega (arith, mul-sub m e price, mul-add price w m, mul-comm m price)
 
--- where L × D > 100 × (1 + R)
+bounded : (growth : Growth) (m l d w : ℕ) → Limit growth m l d (w + m) → Bound growth m (l * d) w
+bounded (by-factor r) m l d w limit = bound-of m w (l * d) (100 * (1 + r)) (omega (arith, mul-assoc m l d))
+bounded (by-tenths t) m l d w limit =
+    bound-of m w (l * d * 10) (100 * (10 + 2 * t)) (omega (arith, mul-assoc m l d, mul-assoc m (l * d) 10))
+
 pub mug-bound-of : (plan : Plan) (h : History) → MugLimit plan h → MugBound plan h
-mug-bound-of plan h limit large = bound-of _ _ _ _ _ limit large
-  where
-    bound-of : (m w l d price : ℕ) → m * l * d ≤ price * (w + m) → price < l * d → m * (l * d - price) ≤ price * w
-    bound-of m w l d price limit large =
-        omega (arith, mul-sub m (l * d) price, mul-assoc m l d, mul-add price w m, mul-comm m price)
+mug-bound-of plan h limit = bounded (plan .terms .growth) _ _ _ _ limit

@@ -2,22 +2,23 @@
 -- power down by one and is never met at a desire of 1; an efficient and satisfied end takes it up by one or, at the top, leaves it.
 -- Assumes of a tick with a worker granted that it does a work or mug cycle (progress).
 use mathlib.Core.Path.{_≡_, refl, sym, ap, _∙_}
-use mathlib.Core.Bool.{Bool, true, false, not}
+use mathlib.Core.Bool.{Bool, true, false, cond, not}
 use mathlib.Core.List.{List, [], _∷_}
 use Prim.Native.Nat.{ℕ, zero, suc, _*_, _≤_, _<_}
 use native.Mathlib.Omega.{arith}
 use native.Mathlib.Nat.{mul-zero, mul-one, mul-le-mul-right}
 use lib.Dec.{leb}
 use borrow.Author.Tests.{leb-true, leb-false, eqb-true}
-use Rattle.model.specs.Plan.{Plan, Terms}
-use Rattle.model.specs.Machine.{State, idle, opened, allotment, finished, ticks-of, fresh, grant, ticked, closes, closed}
-use Rattle.model.specs.Machine.{efficient, satisfied, efficient-now, satisfied-now, lowered, raised, next-desire, most-workers}
+use Rattle.model.specs.Plan.{Growth, Plan, Terms}
+use Rattle.model.specs.Machine.{Wish, State, idle, opened, allotment, finished, ticks-of, fresh, grant, ticked, closes, closed}
+use Rattle.model.specs.Machine.{efficient, satisfied, efficient-now, satisfied-now, lowered, higher, raised, next-wish, desire-at, wish-at}
+use Rattle.model.specs.Machine.{most-workers}
 use Rattle.model.specs.History.{History, ClosedQuantum, none, begun-with, verdict, beginning, history-grant}
 use Rattle.model.specs.Statements.{SoundTerms, ending}
 use Rattle.lists.proofs.Tests.{and-right}
 use Rattle.laws.proofs.Accepted.{GrantAccepted, TickAccepted}
 use Rattle.laws.proofs.Runs.{history-ticked, history-closed}
-use Rattle.laws.proofs.Ladder.{Ladder}
+use Rattle.laws.proofs.Ladder.{Ladder, ladder-of}
 use Rattle.laws.proofs.Grants.{grant-allotment}
 use Rattle.laws.proofs.Counting.{Progressing, cycles-spend}
 
@@ -26,8 +27,8 @@ use Rattle.laws.proofs.Counting.{Progressing, cycles-spend}
 -- a quantum is open and has had t ticks
 pub record Within (h : History) (t : ℕ) : Type 0 where
   pub ticks-had : h .state .quantum ≡ opened t
-  pub as-begun : h .current ≡ begun-with (h .state .desire) (allotment (h .state))
-  pub no-more : allotment (h .state) ≤ h .state .desire
+  pub as-begun : h .current ≡ begun-with (h .state .wish) (allotment (h .state))
+  pub no-more : allotment (h .state) ≤ h .state .wish .desire
   -- "each tick with a worker granted does at least one work or mug tick"
   pub used : 1 ≤ allotment (h .state) → t ≤ h .state .execution .counts .usage
 
@@ -46,7 +47,7 @@ phase-granted g h asked =
     within 0
     (record {
       ticks-had = refl;
-      as-begun = ap (begun-with (h .state .desire)) (sym there);
+      as-begun = ap (begun-with (h .state .wish)) (sym there);
       no-more = omega arith;
       used = λ some. omega arith;
     })
@@ -60,7 +61,7 @@ module _ (plan : Plan) (choices : List ℕ) (h : History) (asked : TickAccepted 
         let counted = cycles-spend (plan .graph) 0 choices (h .state .execution) (omega (arith, asked .one-each)) in
         record {
           ticks-had = ap (λ q. opened (suc (ticks-of q))) (w .ticks-had);
-          as-begun = w .as-begun ∙ ap (begun-with (h .state .desire)) (sym (counted .workers));
+          as-begun = w .as-begun ∙ ap (begun-with (h .state .wish)) (sym (counted .workers));
           no-more = omega arith;
           used =
               λ some.
@@ -85,7 +86,7 @@ pub record Closing (plan : Plan) (h : History) : Type 0 where
   -- what the history records of it, from the counts with which it began, is what the state shows at its end
   pub verdict-is : verdict plan (h .current) (h .state .execution .counts .usage) ≡ ending plan (h .state) ∷ []
   pub open-at-end : h .state .quantum ≡ opened (plan .terms .quantum-length)
-  pub no-more : allotment (h .state) ≤ h .state .desire
+  pub no-more : allotment (h .state) ≤ h .state .wish .desire
   pub used : 1 ≤ allotment (h .state) → plan .terms .quantum-length ≤ h .state .execution .counts .usage
 
 last-tick : (plan : Plan) (s : State) → closes plan s ≡ true → ticks-of (s .quantum) ≡ plan .terms .quantum-length
@@ -118,10 +119,10 @@ pub data QuantumEnd (terms : Terms) (q : ClosedQuantum) (usage : ℕ) : ℕ → 
   stays : {k : ℕ} → q .was-efficient ≡ true → terms .utilization * terms .quantum-length * q .granted ≤ 100 * usage →
       QuantumEnd terms q usage k k
 
--- the desire is the ladder's count at the power k, and at most 64
-pub record OnLadder {terms : Terms} (ladder : Ladder terms) (desire k : ℕ) : Type 0 where
-  pub is-count : desire ≡ ladder .count k
-  pub at-most : desire ≤ most-workers
+-- the desire is that of its power, and at most 64
+pub record OnLadder (growth : Growth) (wish : Wish) : Type 0 where
+  pub is-count : wish .desire ≡ desire-at growth (wish .power)
+  pub at-most : wish .desire ≤ most-workers
 
 -- "Wanted 1 is never met by an inefficient round."
 one-efficient : (terms : Terms) → SoundTerms terms → (granted usage : ℕ) → granted ≤ 1 → (1 ≤ granted → terms .quantum-length ≤ usage) →
@@ -132,70 +133,76 @@ one-efficient terms sound (suc zero) usage few used =
     omega (arith, mul-one (terms .utilization * terms .quantum-length), used (omega arith))
 one-efficient terms sound (suc (suc more)) usage few used = absurd (omega arith)
 
-module _ (plan : Plan) (sound : SoundTerms (plan .terms)) (ladder : Ladder (plan .terms)) (s : State)
-    (no-more : allotment s ≤ s .desire)
+-- a wish on the ladder is that of its power
+on-rung : {growth : Growth} {wish : Wish} → OnLadder growth wish → wish ≡ wish-at growth (wish .power)
+on-rung {growth} {wish} p = ap (λ (d : ℕ). record { power = wish .power; desire = d }) (p .is-count)
+
+module _ (plan : Plan) (sound : SoundTerms (plan .terms)) (s : State)
+    (no-more : allotment s ≤ s .wish .desire)
     (used : 1 ≤ allotment s → plan .terms .quantum-length ≤ s .execution .counts .usage)
+    (p : OnLadder (plan .terms .growth) (s .wish))
   where
-    -- the power of a desire after the end, and how the quantum ended
-    pub record Ended (desire k : ℕ) : Type 0 where
-      pub after : ℕ
-      pub power : OnLadder ladder desire after
-      pub end : QuantumEnd (plan .terms) (ending plan s) (s .execution .counts .usage) k after
+    abbrev growth : Growth
+    growth = plan .terms .growth
+
+    abbrev k : ℕ
+    k = s .wish .power
+
+    ladder : Ladder growth
+    ladder = ladder-of growth (sound .responsive)
+
+    -- what is wanted after the end is on the ladder, and how the quantum ended
+    pub record Ended (wish : Wish) : Type 0 where
+      pub power : OnLadder growth wish
+      pub end : QuantumEnd (plan .terms) (ending plan s) (s .execution .counts .usage) k (wish .power)
 
     enough : efficient-now plan s ≡ true →
         plan .terms .utilization * plan .terms .quantum-length * allotment s ≤ 100 * s .execution .counts .usage
     unfolding efficient
     enough is-efficient = leb-true _ _ is-efficient
 
-    above-one : efficient-now plan s ≡ false → 1 < s .desire
+    above-one : efficient-now plan s ≡ false → 1 < s .wish .desire
     unfolding efficient
-    above-one inefficient = go (leb (s .desire) 1) refl
+    above-one inefficient = go (leb (s .wish .desire) 1) refl
       where
-        go : (b : Bool) → leb (s .desire) 1 ≡ b → 1 < s .desire
+        go : (b : Bool) → leb (s .wish .desire) 1 ≡ b → 1 < s .wish .desire
         go true one =
-            let few : s .desire ≤ 1 = leb-true _ _ one in
+            let few : s .wish .desire ≤ 1 = leb-true _ _ one in
             let short = leb-false _ (100 * s .execution .counts .usage) inefficient in
             absurd (omega (arith, one-efficient (plan .terms) sound (allotment s) (s .execution .counts .usage) (omega arith) used))
         go false more = leb-false _ _ more
 
-    lowered-end : (k : ℕ) → OnLadder ladder (s .desire) k → efficient-now plan s ≡ false → Ended (lowered (plan .terms) (s .desire)) k
-    lowered-end zero p inefficient = absurd (omega (arith, p .is-count, ladder .starts, above-one inefficient))
-    lowered-end (suc k) p inefficient =
-        let lower = ap (lowered (plan .terms)) (p .is-count) ∙ ladder .down k in
-        record {
-          after = k;
-          power = record { is-count = lower; at-most = omega (arith, lower, p .at-most, p .is-count, ladder .rises k) };
-          end = lowers inefficient (above-one inefficient);
-        }
+    -- so k is above 0, and the end leads down by one
+    lowered-end : efficient-now plan s ≡ false → (j : ℕ) → k ≡ j → Ended (lowered growth (s .wish))
+    lowered-end inefficient zero same =
+        absurd (omega (arith, p .is-count, ap (desire-at growth) same, ladder .starts, above-one inefficient))
+    lowered-end inefficient (suc j) same =
+        let lower = ap (lowered growth) (on-rung p ∙ ap (wish-at growth) same) ∙ ladder .down j in
+        rw lower
+        (record {
+          power = record { is-count = refl; at-most = omega (arith, p .at-most, p .is-count, ap (desire-at growth) same, ladder .rises j) };
+          end = rw same (lowers inefficient (above-one inefficient));
+        })
 
-    raised-end : (k : ℕ) → OnLadder ladder (s .desire) k → efficient-now plan s ≡ true → satisfied-now s ≡ true →
-        Ended (raised (plan .terms) (s .desire)) k
+    raised-end : efficient-now plan s ≡ true → satisfied-now s ≡ true → Ended (raised growth (s .wish))
     unfolding satisfied
-    raised-end k p is-efficient is-satisfied = go (leb (ladder .count (suc k)) most-workers) refl
+    raised-end is-efficient is-satisfied =
+        rw (ap (higher growth) (on-rung p) ∙ ladder .up k) (go (leb (desire-at growth (suc k)) most-workers) refl)
       where
-        go : (b : Bool) → leb (ladder .count (suc k)) most-workers ≡ b → Ended (raised (plan .terms) (s .desire)) k
+        go : (b : Bool) → leb (desire-at growth (suc k)) most-workers ≡ b → Ended (cond b (wish-at growth (suc k)) (s .wish))
         go true room =
-            let higher = ap (raised (plan .terms)) (p .is-count) ∙ ladder .up k (leb-true _ _ room) in
             record {
-              after = suc k;
-              power = record { is-count = higher; at-most = rw higher (leb-true _ _ room) };
+              power = record { is-count = refl; at-most = leb-true _ _ room };
               end = raises is-efficient is-satisfied (eqb-true _ _ is-satisfied) (enough is-efficient);
             }
-        go false above =
-            let same = ap (raised (plan .terms)) (p .is-count) ∙ ladder .stop k (leb-false _ _ above) in
-            record {
-              after = k;
-              power = record { is-count = same; at-most = rw (same, ← p .is-count) (p .at-most) };
-              end = stays is-efficient (enough is-efficient);
-            }
+        go false above = record { power = p; end = stays is-efficient (enough is-efficient) }
 
-    next-end : (eff sat : Bool) (k : ℕ) → efficient-now plan s ≡ eff → satisfied-now s ≡ sat → OnLadder ladder (s .desire) k →
-        Ended (next-desire (plan .terms) (s .desire) eff sat) k
-    unfolding next-desire
-    next-end false sat k e f p = lowered-end k p e
-    next-end true true k e f p = raised-end k p e f
-    next-end true false k e f p = record { after = k; power = p; end = stays e (enough e) }
+    next-end : (eff sat : Bool) → efficient-now plan s ≡ eff → satisfied-now s ≡ sat → Ended (next-wish growth (s .wish) eff sat)
+    unfolding next-wish
+    next-end false sat e f = lowered-end e k refl
+    next-end true true e f = raised-end e f
+    next-end true false e f = record { power = p; end = stays e (enough e) }
 
-    pub ended : (k : ℕ) → OnLadder ladder (s .desire) k → Ended (closed plan s .desire) k
+    pub ended : Ended (closed plan s .wish)
     unfolding closed
-    ended k p = next-end (efficient-now plan s) (satisfied-now s) k refl refl p
+    ended = next-end (efficient-now plan s) (satisfied-now s) refl refl

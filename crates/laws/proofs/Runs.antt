@@ -63,7 +63,7 @@ history-closed plan h =
       made = h .made;
     }
 
-tick-moves : (plan : Plan) (P : History → Type 0) (choices : List ℕ) (h : History) → P (history-ticked plan choices h) →
+pub tick-moves : (plan : Plan) (P : History → Type 0) (choices : List ℕ) (h : History) → P (history-ticked plan choices h) →
     (closes plan (ticked plan choices (h .state)) ≡ true → P (history-closed plan (history-ticked plan choices h))) →
     P (history-tick plan choices h)
 unfolding history-tick tick

@@ -1,13 +1,16 @@
--- Every law of a history on one page, for every sound plan, of any responsiveness of 2 or more, and every list of calls, refused ones
--- included. The statements are those of model's specs/Statements.antt and of specs/ here. A stranger reads this first.
+-- Every law of a history on one page, for every sound plan, of any responsiveness of 2 or more or of 12 to 20 tenths, and every list of
+-- calls, refused ones included. The statements are those of model's specs/Statements.antt and of specs/ here. A stranger reads this first.
 -- Assumes nothing.
 use mathlib.Core.List.{List}
+use mathlib.Core.Path.{_≡_}
 use Prim.Native.Nat.{_≤_}
-use Rattle.model.specs.Plan.{Plan}
-use Rattle.model.specs.Machine.{Call}
+use native.Mathlib.Omega.{arith}
+use Rattle.model.specs.Plan.{Growth, by-factor, by-tenths, Plan}
+use Rattle.model.specs.Machine.{Call, desire-at, most-workers}
 use Rattle.model.specs.History.{run}
-use Rattle.model.specs.Statements.{SoundPlan, Progress, Demand3, MugBound, OneIsEfficient, DesireIsPower, OnceAndInOrder, FinishedExactly}
-use Rattle.model.specs.Statements.{StopsAtTop, EndsAsRecorded, WithinBounds}
+use Rattle.model.specs.Statements.{Responsive, SoundPlan, Progress, Demand3, MugBound, OneIsEfficient, DesireIsPower, OnceAndInOrder}
+use Rattle.model.specs.Statements.{FinishedExactly}
+use Rattle.model.specs.Statements.{FallsFromAbove, GrowthMost, Stops, EndsAsRecorded, WithinBounds}
 use Rattle.model.specs.Thefts.{StealsHalf}
 use Rattle.model.specs.Muggings.{MuggedInTurn}
 use Rattle.model.specs.WholeTicks.{WholeTicks}
@@ -16,14 +19,15 @@ use Rattle.laws.specs.Invariants.{Bounded}
 use Rattle.laws.specs.Reached.{Arranged, Measured, CountsFit, largest-granted}
 use Rattle.laws.specs.Spent.{SpentOnly}
 use Rattle.laws.specs.Meaning.{CountsMean, UsageMeans}
-use Rattle.laws.proofs.Ladder.{Ladder, power-ladder}
-use Rattle.laws.proofs.PairingLaw.{pairing-of}
+use Rattle.laws.proofs.PairingLaw.{pairing-of, falls-from-above}
 use Rattle.laws.proofs.MugLimitLaw.{mug-limit-of, mug-bound-of}
 use Rattle.laws.proofs.Accepted.{grant-spent}
 use Rattle.laws.proofs.SpentLaw.{spent-of}
 use Rattle.laws.proofs.Carried.{Carried, carried}
 use Rattle.laws.proofs.Carried as Carried
+use Rattle.laws.proofs.Measures as Measures
 use Rattle.laws.proofs.Tops as Tops
+use Rattle.laws.proofs.Rows.{power-at-most, stops-at-row-end}
 use Rattle.laws.proofs.Progress as Progress
 use Rattle.laws.proofs.Order as Order
 use Rattle.laws.proofs.Fronts as Fronts
@@ -38,24 +42,17 @@ module _ {plan : Plan} (sound : SoundPlan plan) (calls : List Call) where
   pub progress : Progress plan (run plan calls)
   progress = Progress.progress sound calls
 
-  -- the desires are the powers of R
-  abbrev ladder : Ladder (plan .terms)
-  ladder = power-ladder (plan .terms) (sound .terms .responsive)
+  carries : Carried plan (run plan calls)
+  carries = carried sound calls
 
-  carries : Carried plan ladder (run plan calls)
-  carries = carried sound ladder calls
-
-  -- M × L × D ≤ 100 × (1 + R) × (W + M); and each closed inefficient quantum has an earlier closed, efficient and satisfied one whose
-  -- desire times R is its own, and no two share one
+  -- M × L × D ≤ 100 × (1 + R) × (W + M), of t tenths M × L × D × 10 ≤ 100 × (10 + 2 × t) × (W + M); and each closed inefficient quantum has
+  -- an earlier closed, efficient and satisfied one whose desire times R is its own, of t tenths one power lower, and no two share one
   pub demand-three : Demand3 plan calls
   demand-three =
       let c = carries in
-      record {
-        limit = mug-limit-of plan (sound .terms .responsive) (run plan calls) _ _ (c .balance);
-        pairing = pairing-of plan (sound .terms .responsive) _ _ (c .stack);
-      }
+      record { limit = mug-limit-of plan (run plan calls) _ _ (c .balance); pairing = pairing-of plan _ _ (c .stack) }
 
-  -- where L × D > 100 × (1 + R): M × (L × D − 100 × (1 + R)) ≤ 100 × (1 + R) × W, so the work alone bounds the mugs
+  -- where L × D > 100 × (1 + R): M × (L × D − 100 × (1 + R)) ≤ 100 × (1 + R) × W, so the work alone bounds the mugs; of t tenths likewise
   pub mug-bound : MugBound plan (run plan calls)
   mug-bound = mug-bound-of plan (run plan calls) (demand-three .limit)
 
@@ -63,20 +60,40 @@ module _ {plan : Plan} (sound : SoundPlan plan) (calls : List Call) where
   pub one-is-efficient : OneIsEfficient (run plan calls .closed-quanta)
   one-is-efficient = carries .stack .above-one
 
-  -- the desire is a power of R, at most 64, so that no division leaves a remainder
+  -- k never falls below 0
+  pub falls-above-zero : FallsFromAbove (run plan calls .closed-quanta)
+  falls-above-zero = falls-from-above plan _ _ (carries .stack)
+
+  -- the desire is that of its power, at most 64, and was in every closed quantum: a power of R, so that no division leaves a remainder, or
+  -- the whole part of one
   pub desire-is-power : DesireIsPower plan (run plan calls)
   desire-is-power =
       let c = carries in
-      record { power = c .power; is-power = c .desire .is-count; at-most = c .desire .at-most }
+      record {
+        is-power = c .desire .is-count;
+        at-most = c .desire .at-most;
+        power-at-most =
+            power-at-most (plan .terms .growth) (sound .terms .responsive) _ (omega (arith, c .desire .is-count, c .desire .at-most));
+        was-power = c .stack .on-ladders;
+      }
 
   -- "So it stops at the largest powers of R up to 64, for R = 2 to 7": the desire never exceeds the table's entry; an efficient and
-  -- satisfied end multiplies it by R below the entry, and leaves it at the entry
-  pub stops-at-top : plan .terms .responsiveness ≤ 7 → StopsAtTop plan (run plan calls)
-  stops-at-top three-bits = Tops.stops-at-top sound three-bits desire-is-power
+  -- satisfied end multiplies it by R below the entry, and leaves it at the entry. Of 12 to 20 tenths k is a place of the row of whole
+  -- parts, the desire its entry, and such an end goes to the next entry, and stays at the last
+  pub stops-at-top : GrowthMost (plan .terms .growth) → Stops (plan .terms .growth) (run plan calls .state .wish)
+  stops-at-top widths =
+      by-growth (plan .terms .growth) (sound .terms .responsive) widths (desire-is-power .is-power) (desire-is-power .at-most)
+    where
+      by-growth : (growth : Growth) → Responsive growth → GrowthMost growth →
+          run plan calls .state .wish .desire ≡ desire-at growth (run plan calls .state .wish .power) →
+          run plan calls .state .wish .desire ≤ most-workers → Stops growth (run plan calls .state .wish)
+      by-growth (by-factor r) responsive three-bits is-power few = Tops.stops-at-top r responsive three-bits _ is-power few
+      by-growth (by-tenths t) responsive five-bits is-power few =
+          stops-at-row-end t (responsive .0) (responsive .1) _ is-power few
 
   -- what the history keeps of a quantum that closes is what the state shows, and the desire moves by the verdict kept
   pub ends-as-recorded : EndsAsRecorded plan (run plan calls)
-  ends-as-recorded = Carried.ends-as-recorded sound ladder calls
+  ends-as-recorded = Carried.ends-as-recorded sound calls
 
   -- "Each piece is worked at most once, after all before it", worked meaning completed, and no tick of it is done before; the state shows
   -- exactly those that the order completes
@@ -110,11 +127,11 @@ module _ {plan : Plan} (sound : SoundPlan plan) (calls : List Call) where
 
   -- .. so at most 64; and how large each count can be
   pub measured : Measured plan (run plan calls .state)
-  measured = Histories.measured sound calls
+  measured = Measures.measured sound calls
 
   -- the same in numbers, for fields of document 01's widths: no sum of the code can wrap
   pub counts-fit : WithinBounds plan → CountsFit (run plan calls .state)
-  counts-fit widths = Histories.counts-fit sound widths calls
+  counts-fit widths = Measures.counts-fit sound widths calls
 
   -- a grant meets 13 only where every tick of every quantum that may begin is used up: in quanta without a worker, or each with a work or
   -- mug cycle

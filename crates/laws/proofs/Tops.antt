@@ -11,25 +11,24 @@ use lib.Dec.{leb, ltb, eqb}
 use lib.ListN.{length, getD}
 use borrow.Author.Tests.{ltb-true, leb-true, eqb-true, le-leb, lt-leb}
 use Rattle.model.specs.Tests.{below, member}
-use Rattle.model.specs.Plan.{Plan}
-use Rattle.model.specs.Machine.{desire-at, most-workers, next-desire, top-desires, top-desire}
-use Rattle.model.specs.History.{History}
+use Rattle.model.specs.Plan.{by-factor}
+use Rattle.model.specs.Machine.{Wish, desire-at, most-workers, next-wish, top-desires, top-desire}
 use Rattle.model.specs.Examples.{powers, top-desire-right, top-desires-right, top-desires-rule}
-use Rattle.model.specs.Statements.{SoundPlan, DesireIsPower, TopDesire, StopsAtTop}
+use Rattle.model.specs.Statements.{TopDesire, StopsAtTop}
 use Rattle.lists.proofs.Tests.{true-is-not-false, and-left, and-right}
 
 -- ---- the rule at each entry
 
 -- a number among powers of R is one of them
-some-power : (r top : ℕ) (ks : List ℕ) → member top (map (desire-at r) ks) ≡ true → (k : ℕ) × (top ≡ desire-at r k)
+some-power : (r top : ℕ) (ks : List ℕ) → member top (map (desire-at (by-factor r)) ks) ≡ true → (k : ℕ) × (top ≡ desire-at (by-factor r) k)
 unfolding member
 some-power r top [] h = absurd (true-is-not-false h refl)
-some-power r top (k ∷ ks) h = go (eqb top (desire-at r k)) refl (some-power r top ks) h
+some-power r top (k ∷ ks) h = go (eqb top (desire-at (by-factor r) k)) refl (some-power r top ks) h
   where
-    go : (b : Bool) → eqb top (desire-at r k) ≡ b →
-        (member top (map (desire-at r) ks) ≡ true → (j : ℕ) × (top ≡ desire-at r j)) →
-        cond b true (member top (map (desire-at r) ks)) ≡ true → (j : ℕ) × (top ≡ desire-at r j)
-    go true e rest h = (k, eqb-true top (desire-at r k) e)
+    go : (b : Bool) → eqb top (desire-at (by-factor r) k) ≡ b →
+        (member top (map (desire-at (by-factor r)) ks) ≡ true → (j : ℕ) × (top ≡ desire-at (by-factor r) j)) →
+        cond b true (member top (map (desire-at (by-factor r)) ks)) ≡ true → (j : ℕ) × (top ≡ desire-at (by-factor r) j)
+    go true e rest h = (k, eqb-true top (desire-at (by-factor r) k) e)
     go false e rest h = rest h
 
 entry-of : (r top : ℕ) → top-desire-right r top ≡ true → TopDesire r top
@@ -66,36 +65,36 @@ top-of r low high =
 -- ---- a desire and the top
 
 module _ {r top desire : ℕ} (responsive : 2 ≤ r) (t : TopDesire r top)
-    (k : ℕ) (is-power : desire ≡ desire-at r k) (few : desire ≤ most-workers) where
+    (k : ℕ) (is-power : desire ≡ desire-at (by-factor r) k) (few : desire ≤ most-workers) where
   some : 0 < r
   some = omega arith
 
   -- a higher power would be R times the top or more, and so exceed 64
   not-above : t .power < k → ⊥
   not-above above =
-      let more : desire-at r (suc (t .power)) ≤ desire-at r k = pow-le-pow-right some above in
+      let more : desire-at (by-factor r) (suc (t .power)) ≤ desire-at (by-factor r) k = pow-le-pow-right some above in
       let next = pow-suc r (t .power) in
-      let same : top * r ≡ desire-at r (t .power) * r = ap (λ (x : ℕ). x * r) (t .is-power) in
+      let same : top * r ≡ desire-at (by-factor r) (t .power) * r = ap (λ (x : ℕ). x * r) (t .is-power) in
       omega (arith, t .largest)
 
   pub at-most-top : desire ≤ top
   at-most-top =
       let up : k ≤ t .power = (let no = not-above in omega arith) in
-      let less : desire-at r k ≤ desire-at r (t .power) = pow-le-pow-right some up in
+      let less : desire-at (by-factor r) k ≤ desire-at (by-factor r) (t .power) = pow-le-pow-right some up in
       omega (arith, t .is-power)
 
   -- a desire below the top is a lower power
   not-below : desire < top → t .power ≤ k → ⊥
   not-below lower down =
-      let less : desire-at r (t .power) ≤ desire-at r k = pow-le-pow-right some down in
+      let less : desire-at (by-factor r) (t .power) ≤ desire-at (by-factor r) k = pow-le-pow-right some down in
       omega (arith, t .is-power)
 
   pub room-below : desire < top → desire * r ≤ most-workers
   room-below lower =
       let up : k < t .power = (let no = not-below lower in omega arith) in
-      let more : desire-at r (suc k) ≤ desire-at r (t .power) = pow-le-pow-right some up in
+      let more : desire-at (by-factor r) (suc k) ≤ desire-at (by-factor r) (t .power) = pow-le-pow-right some up in
       let next = pow-suc r k in
-      let same : desire * r ≡ desire-at r k * r = ap (λ (x : ℕ). x * r) is-power in
+      let same : desire * r ≡ desire-at (by-factor r) k * r = ap (λ (x : ℕ). x * r) is-power in
       omega (arith, t .is-power, t .at-most)
 
   pub no-room-at : desire ≡ top → most-workers < desire * r
@@ -103,20 +102,20 @@ module _ {r top desire : ℕ} (responsive : 2 ≤ r) (t : TopDesire r top)
 
 -- ---- where the desire stops
 
-pub stops-at-top : {plan : Plan} {h : History} → SoundPlan plan → plan .terms .responsiveness ≤ 7 → DesireIsPower plan h → StopsAtTop plan h
-unfolding next-desire
-stops-at-top {plan} {h} sound three-bits d =
-    let r = plan .terms .responsiveness in
-    let desire = h .state .desire in
-    let t = top-of r (sound .terms .responsive) three-bits in
+pub stops-at-top : (r : ℕ) → 2 ≤ r → r ≤ 7 → (wish : Wish) → wish .desire ≡ desire-at (by-factor r) (wish .power) →
+    wish .desire ≤ most-workers → StopsAtTop r wish
+unfolding next-wish
+stops-at-top r responsive three-bits wish is-power few =
+    let desire = wish .desire in
+    let t = top-of r responsive three-bits in
     record {
-      at-most = at-most-top (sound .terms .responsive) t (d .power) (d .is-power) (d .at-most);
+      at-most = at-most-top responsive t (wish .power) is-power few;
       rises =
           λ lower.
-          let room = room-below (sound .terms .responsive) t (d .power) (d .is-power) (d .at-most) lower in
+          let room = room-below responsive t (wish .power) is-power few lower in
           rw (le-leb (desire * r) most-workers room) refl;
       stays =
           λ same.
-          let none = no-room-at (sound .terms .responsive) t (d .power) (d .is-power) (d .at-most) same in
+          let none = no-room-at responsive t (wish .power) is-power few same in
           rw (lt-leb (desire * r) most-workers none) refl;
     }

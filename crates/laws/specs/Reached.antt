@@ -25,7 +25,7 @@ pub record Arranged (plan : Plan) (s : State) : Type 0 where
 
 abbrev pub granted-in : CurrentQuantum → ℕ
 granted-in none = 0
-granted-in (begun-with wanted granted) = granted
+granted-in (begun-with wish granted) = granted
 
 unfoldable pub largest-closed : List ClosedQuantum → ℕ
 largest-closed [] = 0
@@ -40,14 +40,14 @@ largest-granted h = max (largest-closed (h .closed-quanta)) (granted-in (h .curr
 pub record OpenQuantum (plan : Plan) (s : State) (ticks : ℕ) : Type 0 where
   pub within : ticks ≤ plan .terms .quantum-length
   pub unclosed : finished (s .execution) ≡ false → ticks < plan .terms .quantum-length
-  pub granted : allotment s ≤ s .desire
+  pub granted : allotment s ≤ s .wish .desire
   pub usage-so-far : s .execution .counts .usage ≤ most-workers * ticks
   -- the ticks that it has not had leave room
   pub room : all-counted (s .execution .counts) + most-workers * plan .terms .quantum-length
       ≤ most-workers * (plan .terms .quantum-length * s .begun) + most-workers * ticks
 
 pub record Measured (plan : Plan) (s : State) : Type 0 where
-  pub wanted : s .desire ≤ most-workers
+  pub wanted : s .wish .desire ≤ most-workers
   pub deques-at-most : Bounded most-workers (s .execution)
   pub quanta : s .begun ≤ quantum-limit
   pub current : (ticks : ℕ) → s .quantum ≡ opened ticks → OpenQuantum plan s ticks

@@ -8,7 +8,7 @@ use Rattle.model.specs.Plan.{Plan}
 use Rattle.model.specs.Machine.{State, Quantum, idle, opened}
 use Rattle.memory.specs.declared.Job.{Job}
 use Rattle.memory.specs.Parts.{Parts, parts}
-use Rattle.memory.specs.Words.{Numbers, numbers-in, terms-in, desire-in, started-in, open-in, ticks-in, begun-in}
+use Rattle.memory.specs.Words.{Numbers, numbers-in, terms-in, wish-in, started-in, open-in, ticks-in, begun-in}
 use Rattle.memory.specs.Graphs.{graph, durations-view}
 use Rattle.memory.specs.View.{view}
 
@@ -52,7 +52,7 @@ job-state job =
     record {
       execution = view (job-parts job) (job-numbers job);
       started = started-in (job .words);
-      desire = desire-in (job .words);
+      wish = wish-in (job .words);
       quantum = quantum-view (open-in (job .words)) (ticks-in (job .words));
       begun = begun-in (job .words);
     }

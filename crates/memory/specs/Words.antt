@@ -1,15 +1,16 @@
--- What each of a job's 18 words is.
+-- What each of a job's 20 words is.
 use mathlib.Core.Path.{_≡_}
 use mathlib.Core.Bool.{Bool, not}
 use mathlib.Core.List.{List}
 use Prim.Native.Nat.{ℕ, _+_, _≤_}
 use lib.Dec.{eqb}
 use lib.ListN.{length, getD, set}
-use Rattle.model.specs.Plan.{Terms}
+use Rattle.model.specs.Plan.{Growth, growth-with, Terms}
+use Rattle.model.specs.Machine.{Wish}
 
 -- so many words has a job
 abbrev pub word-count : ℕ
-word-count = 18
+word-count = 20
 
 abbrev pub word : List ℕ → ℕ → ℕ
 word words place = getD words place 0
@@ -60,14 +61,19 @@ numbers-in words =
       waiting = word words 9;
     }
 
--- the plan's terms: R, D and L
+-- the plan's terms: R, D and L. A flag tells whether R is in tenths
+abbrev pub growth-in : List ℕ → Growth
+growth-in words = growth-with (flag words 18) (word words 10)
+
 abbrev pub terms-in : List ℕ → Terms
-terms-in words =
-    record { responsiveness = word words 10; utilization = word words 11; quantum-length = word words 12 }
+terms-in words = record { growth = growth-in words; utilization = word words 11; quantum-length = word words 12 }
 
 -- what calls move beside the execution
 abbrev pub desire-in : List ℕ → ℕ
 desire-in words = word words 13
+
+abbrev pub wish-in : List ℕ → Wish
+wish-in words = record { power = word words 19; desire = desire-in words }
 
 abbrev pub started-in : List ℕ → Bool
 started-in words = flag words 14

@@ -4,7 +4,7 @@
 // So many numbers has a job's memory, and so many words it has.
 pub const MEMORY_SIZE: usize = 5376;
 
-pub const WORD_COUNT: usize = 18;
+pub const WORD_COUNT: usize = 20;
 
 pub type Memory = [u16; MEMORY_SIZE];
 
@@ -60,6 +60,10 @@ pub const OPEN: usize = 15;
 pub const TICKS: usize = 16;
 
 pub const BEGUN: usize = 17;
+
+pub const IN_TENTHS: usize = 18;
+
+pub const POWER: usize = 19;
 
 pub struct Job {
     pub memory: Memory,

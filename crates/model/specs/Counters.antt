@@ -30,7 +30,7 @@ counters plan s refusals =
     status s
     ∷ tasks-worked s
     ∷ tasks (plan .graph)
-    ∷ s .desire
+    ∷ s .wish .desire
     ∷ allotment s
     ∷ s .execution .counts .works .work
     ∷ s .execution .counts .mugs .mug

@@ -8,11 +8,14 @@ use lib.ListN.{length, getD, take, drop, replicate}
 use Rattle.model.specs.Tests.{below, every, keep, member, count-set, all-set, occurrences, zeros}
 use Rattle.model.specs.Questions.{accepted, refused, answer-number, first-no}
 use Rattle.model.specs.Plan
-use Rattle.model.specs.Plan.{Plan, plan-of, plan-answer, form-field, responsiveness-field, utilization-field, quantum-length-field}
-use Rattle.model.specs.Plan.{task-count, count-field, first-field, second-field, duration-field}
+use Rattle.model.specs.Plan.{Growth, by-factor, by-tenths, Plan, plan-of, plan-answer, form-field, growth-field, utilization-field}
+use Rattle.model.specs.Plan.{quantum-length-field, task-count, count-field, first-field, second-field, duration-field}
 use Rattle.model.specs.Machine
 use Rattle.model.specs.Machine.{State, Call, grants, ticks, call-answer, step, fresh, status, no-quantum-open, ticks-of}
-use Rattle.model.specs.Machine.{grant-questions, stolen-count, efficient, next-desire, top-desires, desire-at, most-workers}
+use Rattle.model.specs.Machine.{grant-questions, stolen-count, efficient, next-wish, wish-at, top-desires, whole-parts}
+use Rattle.model.specs.Machine.{desire-at, most-workers}
+use native.Mathlib.Omega.{arith}
+use Rattle.model.specs.Statements.{Limit, OneStepLower}
 use Rattle.model.specs.History
 use Rattle.model.specs.History.{ClosedQuantum, CurrentQuantum, none, begun-with, run, work-order, ticks-done}
 use Rattle.model.specs.WholeTicks
@@ -77,7 +80,13 @@ form-bytes form r d l ts =
     let h = form * 2 ^ 36 + r * 2 ^ 33 + d * 2 ^ 26 + l * 2 ^ 10 + (length ts - 1) in
     (h / 2 ^ 32 % 256) ∷ (h / 2 ^ 24 % 256) ∷ (h / 2 ^ 16 % 256) ∷ (h / 2 ^ 8 % 256) ∷ (h % 256) ∷ flatMap (λ t. t) ts
 
--- the same of form 1
+-- the same of form 3, with R in tenths
+gentle-bytes : ℕ → ℕ → ℕ → List (List ℕ) → List ℕ
+gentle-bytes tenths d l ts =
+    let h = 3 * 2 ^ 36 + tenths * 2 ^ 31 + d * 2 ^ 24 + l * 2 ^ 10 + (length ts - 1) in
+    (h / 2 ^ 32 % 256) ∷ (h / 2 ^ 24 % 256) ∷ (h / 2 ^ 16 % 256) ∷ (h / 2 ^ 8 % 256) ∷ (h % 256) ∷ flatMap (λ t. t) ts
+
+-- form-bytes of form 1
 plan-bytes : ℕ → ℕ → ℕ → List (List ℕ) → List ℕ
 plan-bytes r d l ts = form-bytes 1 r d l ts
 
@@ -178,6 +187,10 @@ labelled sheet status =
 abbrev log-1 : List ℕ
 log-1 = 0x01 ∷ 0x81 ∷ 0x00 ∷ 0x81 ∷ 0x00 ∷ 0x02 ∷ 0x82 ∷ 0x00 ∷ 0x00 ∷ 0x82 ∷ 0x00 ∷ 0x00 ∷ []
 
+-- the wanted count after the end of a quantum with this k and wanted count, efficient or not, satisfied or not
+desire-after : List ℕ → ℕ → ℕ → Bool → Bool → ℕ
+desire-after bytes k desire e s = next-wish (plan-of bytes .terms .growth) (record { power = k; desire = desire }) e s .desire
+
 document-rows : List Row
 document-rows =
     -- 1, as request U6 has it: "example 1 then ends in `4 0 2 0 0`"
@@ -195,7 +208,7 @@ document-rows =
     -- 5
     ∷ row (map (λ u. cond (efficient (plan-of (diamond 2 80 5) .terms) u 2) 1 0) (8 ∷ 7 ∷ [])) (1 ∷ 0 ∷ [])
     -- 6
-    ∷ row (next-desire (plan-of (diamond 3 80 2) .terms) 27 true true ∷ []) (27 ∷ [])
+    ∷ row (desire-after (diamond 3 80 2) 3 27 true true ∷ []) (27 ∷ [])
     -- 7
     ∷ row (placed (seven 1) (grants 1 ∷ ticks (0 ∷ []) ∷ grants 2 ∷ [])) (2 ∷ 1 ∷ 2 ∷ 0 ∷ [])
     ∷ row (placed (seven 1) (grants 1 ∷ ticks (0 ∷ []) ∷ grants 2 ∷ ticks (0 ∷ 0 ∷ []) ∷ [])) (2 ∷ 3 ∷ 4 ∷ 1 ∷ 2 ∷ [])
@@ -211,9 +224,14 @@ document-rows =
 
 -- ---- rows of our own: each tells a misreading apart
 
+-- R, as a number of its field
+growth-number : Growth → ℕ
+growth-number (by-factor r) = r
+growth-number (by-tenths t) = t
+
 header-fields : List ℕ → List ℕ
 header-fields bytes =
-    form-field bytes ∷ responsiveness-field bytes ∷ utilization-field bytes ∷ quantum-length-field bytes ∷ task-count bytes ∷ []
+    form-field bytes ∷ growth-number (growth-field bytes) ∷ utilization-field bytes ∷ quantum-length-field bytes ∷ task-count bytes ∷ []
 
 -- the three fields of task t, and its ticks
 fields-of : List ℕ → ℕ → List ℕ
@@ -226,7 +244,7 @@ task-fields bytes = fields-of bytes 0
 fresh-with : ℕ → State
 fresh-with begun =
     let s = fresh (plan-of plan-a) in
-    record { execution = s .execution; started = s .started; desire = s .desire; quantum = s .quantum; begun = begun }
+    record { execution = s .execution; started = s .started; wish = s .wish; quantum = s .quantum; begun = begun }
 
 -- the refusal's number of a grant in a state, 0 where it is accepted
 grant-number : ℕ → State → List ℕ
@@ -237,7 +255,7 @@ quantum-shown q = q .wanted ∷ q .granted ∷ cond (q .was-efficient) 1 0 ∷ c
 
 current-shown : CurrentQuantum → List ℕ
 current-shown none = []
-current-shown (begun-with wanted granted) = wanted ∷ granted ∷ []
+current-shown (begun-with wish granted) = wish .desire ∷ granted ∷ []
 
 -- the closed quanta, the one that is not closed, and the tasks in the order in which they were worked
 history-shown : List ℕ → List Call → List ℕ
@@ -308,8 +326,8 @@ plan-rows =
     ∷ row (refusal (diamond 2 80 2)) (0 ∷ [])
     -- 1: fewer than 5 bytes, whatever they hold
     ∷ row (refusal [] ++ refusal (take 4 plan-a)) (1 ∷ 1 ∷ [])
-    -- 2: form 0, form 3, form 15
-    ∷ row (flatMap (λ first. refusal (first ∷ drop 1 plan-a)) (0x05 ∷ 0x35 ∷ 0xf5 ∷ [])) (2 ∷ 2 ∷ 2 ∷ [])
+    -- 2: form 0, form 4, form 15
+    ∷ row (flatMap (λ first. refusal (first ∷ drop 1 plan-a)) (0x05 ∷ 0x45 ∷ 0xf5 ∷ [])) (2 ∷ 2 ∷ 2 ∷ [])
     -- the first "no" answers
     ∷ row (flatMap refusal (diamond 0 0 0 ∷ diamond 2 0 0 ∷ diamond 2 80 0 ∷ take 16 (diamond 2 80 0) ∷ [])) (3 ∷ 4 ∷ 5 ∷ 5 ∷ [])
     ∷ row (flatMap refusal (take 16 (diamond 1 0 0) ∷ take 5 plan-a ∷ [])) (3 ∷ 6 ∷ [])
@@ -378,6 +396,87 @@ form-rows =
     -- 28 of the last piece comes before 9; 0 ticks of the only piece; 1 and 255 ticks are fine
     ∷ row (refusal (form-bytes 2 2 80 2 (lasting 1 2 0 1 ∷ lasting 1 2 0 1 ∷ lasting 0 0 0 0 ∷ []))) (28 ∷ [])
     ∷ row (flatMap (λ duration. refusal (one-lasting 2 duration)) (0 ∷ 1 ∷ 255 ∷ [])) (28 ∷ 0 ∷ 0 ∷ [])
+    ∷ []
+
+-- Plan A's graph in form 3, with R in tenths
+gentle-diamond : ℕ → ℕ → ℕ → List ℕ
+gentle-diamond tenths d l = gentle-bytes tenths d l (task 2 1 2 ∷ task 1 3 0 ∷ task 1 3 0 ∷ task 0 0 0 ∷ [])
+
+-- k and the wanted count after the end of a quantum of t tenths with the power k, efficient or not, satisfied or not
+gentle-next : ℕ → ℕ → Bool → Bool → List ℕ
+gentle-next t k e s =
+    let growth = plan-of (gentle-diamond t 80 2) .terms .growth in
+    let next = next-wish growth (wish-at growth k) e s in
+    next .power ∷ next .desire ∷ []
+
+-- the powers at which the nine rows end, from 12 tenths
+last-powers : List (List ℕ)
+last-powers =
+    (12 ∷ 22 ∷ []) ∷ (13 ∷ 15 ∷ []) ∷ (14 ∷ 12 ∷ []) ∷ (15 ∷ 10 ∷ []) ∷ (16 ∷ 8 ∷ []) ∷ (17 ∷ 7 ∷ []) ∷ (18 ∷ 7 ∷ [])
+    ∷ (19 ∷ 6 ∷ []) ∷ (20 ∷ 6 ∷ []) ∷ []
+
+-- what an end so many powers below the last one of each row leads to
+from-the-top : ℕ → Bool → Bool → List ℕ
+from-the-top lower e s = flatMap (λ r. gentle-next (getD r 0 0) (getD r 1 0 - lower) e s) last-powers
+
+-- a chain of so many tasks in form 3
+gentle-chain : ℕ → ℕ → ℕ → ℕ → List ℕ
+gentle-chain tenths d l n = gentle-bytes tenths d l (map (link n) (below n))
+
+-- so many quanta of one worker and one tick
+single-rounds : ℕ → List Call
+single-rounds n = flatMap (λ i. grants 1 ∷ ticks (0 ∷ []) ∷ []) (below n)
+
+-- k and the wanted count after calls, and those of the history's closed quanta
+powers-shown : List ℕ → List Call → List ℕ
+powers-shown bytes calls =
+    let h = run (plan-of bytes) calls in
+    h .state .wish .power ∷ h .state .wish .desire ∷ flatMap (λ q. q .power ∷ q .wanted ∷ []) (h .closed-quanta)
+
+-- request U14: "Plan form 3 packs form 4 bits, R in tenths 5, D 7, L 14, N less one 10, and has form 1's pieces."
+gentle-rows : List Row
+gentle-rows =
+    -- the largest fields; fields cross the bytes
+    row (header-fields (0x3f ∷ 0xff ∷ 0xff ∷ 0xff ∷ 0xff ∷ [])) (3 ∷ 31 ∷ 127 ∷ 16383 ∷ 1024 ∷ [])
+    ∷ row (header-fields (0x35 ∷ 0xa9 ∷ 0x63 ∷ 0xcd ∷ 0x2b ∷ [])) (3 ∷ 11 ∷ 41 ∷ 6387 ∷ 300 ∷ [])
+    ∷ row (fields-of (0x30 ∷ 0 ∷ 0 ∷ 0 ∷ 1 ∷ 0x11 ∷ 0x22 ∷ 0x33 ∷ 0xb5 ∷ 0x6a ∷ 0x5c ∷ 0xff ∷ []) 1) (2 ∷ 1709 ∷ 604 ∷ 1 ∷ [])
+    -- "question 3 asks for 12 to 20 tenths and refuses others with 3"
+    ∷ row (flatMap (λ t. refusal (gentle-diamond t 80 2)) (0 ∷ 2 ∷ 7 ∷ 11 ∷ 12 ∷ 20 ∷ 21 ∷ 31 ∷ []))
+    (3 ∷ 3 ∷ 3 ∷ 3 ∷ 0 ∷ 0 ∷ 3 ∷ 3 ∷ [])
+    -- 4 to 6 as for form 1, in their order; form 2's pieces under form 3
+    ∷ row (flatMap refusal (gentle-diamond 11 0 0 ∷ gentle-diamond 12 0 0 ∷ gentle-diamond 12 101 0 ∷ gentle-diamond 12 100 0
+    ∷ take 16 (gentle-diamond 12 100 0) ∷ gentle-diamond 12 100 16383 ∷ [])) (3 ∷ 4 ∷ 4 ∷ 5 ∷ 5 ∷ 0 ∷ [])
+    ∷ row (flatMap refusal (take 16 (gentle-diamond 12 1 1) ∷ (gentle-diamond 12 1 1 ++ (0 ∷ []))
+    ∷ (0x3a ∷ drop 1 (lasting-diamond 2)) ∷ []))
+    (6 ∷ 6 ∷ 6 ∷ [])
+    -- "Wanted is the whole part of R to the power k": past the end of each row stands a whole part above 64
+    ∷ row (map length whole-parts) (23 ∷ 16 ∷ 13 ∷ 11 ∷ 9 ∷ 8 ∷ 8 ∷ 7 ∷ 7 ∷ [])
+    ∷ row (map (desire-at (by-tenths 12)) (below 24))
+    (1 ∷ 1 ∷ 1 ∷ 1 ∷ 2 ∷ 2 ∷ 2 ∷ 3 ∷ 4 ∷ 5 ∷ 6 ∷ 7 ∷ 8 ∷ 10 ∷ 12 ∷ 15 ∷ 18 ∷ 22 ∷ 26 ∷ 31 ∷ 38 ∷ 46 ∷ 55 ∷ 66 ∷ [])
+    ∷ row (map (desire-at (by-tenths 15)) (below 12)) (1 ∷ 1 ∷ 2 ∷ 3 ∷ 5 ∷ 7 ∷ 11 ∷ 17 ∷ 25 ∷ 38 ∷ 57 ∷ 86 ∷ [])
+    -- "rises by one after an efficient and satisfied one, as long as the result is at most 64": to the last power of each row, and no
+    -- further
+    ∷ row (from-the-top 1 true true)
+    (22 ∷ 55 ∷ 15 ∷ 51 ∷ 12 ∷ 56 ∷ 10 ∷ 57 ∷ 8 ∷ 42 ∷ 7 ∷ 41 ∷ 7 ∷ 61 ∷ 6 ∷ 47 ∷ 6 ∷ 64 ∷ [])
+    ∷ row (from-the-top 0 true true)
+    (22 ∷ 55 ∷ 15 ∷ 51 ∷ 12 ∷ 56 ∷ 10 ∷ 57 ∷ 8 ∷ 42 ∷ 7 ∷ 41 ∷ 7 ∷ 61 ∷ 6 ∷ 47 ∷ 6 ∷ 64 ∷ [])
+    -- "falls by one after an inefficient round", satisfied or not; a deprived one leaves k
+    ∷ row (from-the-top 0 false true)
+    (21 ∷ 46 ∷ 14 ∷ 39 ∷ 11 ∷ 40 ∷ 9 ∷ 38 ∷ 7 ∷ 26 ∷ 6 ∷ 24 ∷ 6 ∷ 34 ∷ 5 ∷ 24 ∷ 5 ∷ 32 ∷ [])
+    ∷ row (gentle-next 12 5 false false ++ gentle-next 12 5 true false) (4 ∷ 2 ∷ 5 ∷ 2 ∷ [])
+    -- several powers have one whole part: k moves, the wanted count stays
+    ∷ row (gentle-next 12 0 true true ++ gentle-next 12 3 true true ++ gentle-next 12 4 true true ++ gentle-next 12 6 false true)
+    (1 ∷ 1 ∷ 4 ∷ 2 ∷ 5 ∷ 2 ∷ 5 ∷ 2 ∷ [])
+    -- k of each round; a round of 0 is efficient and deprived
+    ∷ row (powers-shown (gentle-chain 12 1 1 9) (single-rounds 4 ++ (grants 0 ∷ ticks [] ∷ [])))
+    (4 ∷ 2 ∷ 0 ∷ 1 ∷ 1 ∷ 1 ∷ 2 ∷ 1 ∷ 3 ∷ 1 ∷ 4 ∷ 2 ∷ [])
+    -- wanted 2 with both workers granted, one of them in vain: inefficient, and k is back at 3
+    ∷ row (powers-shown (gentle-chain 12 80 1 9) (single-rounds 4 ++ (grants 2 ∷ ticks (0 ∷ 0 ∷ []) ∷ [])))
+    (3 ∷ 1 ∷ 0 ∷ 1 ∷ 1 ∷ 1 ∷ 2 ∷ 1 ∷ 3 ∷ 1 ∷ 4 ∷ 2 ∷ [])
+    -- forms 1 and 2 have k, too
+    ∷ row (powers-shown (chain 2 80 1 9) (single-rounds 1 ++ (grants 2 ∷ ticks (0 ∷ 0 ∷ []) ∷ []))) (0 ∷ 1 ∷ 0 ∷ 1 ∷ 1 ∷ 2 ∷ [])
+    -- the count line shows the wanted count
+    ∷ row (shown (gentle-chain 20 1 1 4) (1 ∷ 0x81 ∷ 0 ∷ 2 ∷ [])) (1 ∷ 1 ∷ 4 ∷ 2 ∷ 2 ∷ 1 ∷ 0 ∷ 0 ∷ 0 ∷ 0 ∷ [])
     ∷ []
 
 -- "A front piece stays until its ticks are done; its followers come after the last one."
@@ -572,14 +671,13 @@ quantum-rows =
     -- it closes inside its last tick; the granted count stays
     ∷ row (shown (chain 2 80 1 4) (1 ∷ 0x81 ∷ 0 ∷ [])) (1 ∷ 1 ∷ 4 ∷ 2 ∷ 1 ∷ 1 ∷ 0 ∷ 0 ∷ 0 ∷ 0 ∷ [])
     -- inefficient divides, also when deprived
-    ∷ row (next-desire (plan-of plan-a .terms) 4 false true ∷ next-desire (plan-of plan-a .terms) 4 false false
-    ∷ next-desire (plan-of plan-a .terms) 4 true false ∷ next-desire (plan-of plan-a .terms) 4 true true ∷ []) (2 ∷ 2 ∷ 4 ∷ 8 ∷ [])
+    ∷ row (desire-after plan-a 2 4 false true ∷ desire-after plan-a 2 4 false false ∷ desire-after plan-a 2 4 true false
+    ∷ desire-after plan-a 2 4 true true ∷ []) (2 ∷ 2 ∷ 4 ∷ 8 ∷ [])
     -- at the top it stays as it is
-    ∷ row (map (λ r. next-desire (plan-of (diamond r 80 2) .terms) (getD top-desires (r - 2) 0) true true) (2 ∷ 3 ∷ 4 ∷ 5 ∷ 6 ∷ 7 ∷ []))
+    ∷ row (map (λ r. desire-after (diamond r 80 2) 2 (getD top-desires (r - 2) 0) true true) (2 ∷ 3 ∷ 4 ∷ 5 ∷ 6 ∷ 7 ∷ []))
     (64 ∷ 27 ∷ 64 ∷ 25 ∷ 36 ∷ 49 ∷ [])
     -- 64 itself is allowed
-    ∷ row (next-desire (plan-of plan-a .terms) 32 true true ∷ next-desire (plan-of (diamond 4 80 2) .terms) 16 true true ∷ [])
-    (64 ∷ 64 ∷ [])
+    ∷ row (desire-after plan-a 5 32 true true ∷ desire-after (diamond 4 80 2) 2 16 true true ∷ []) (64 ∷ 64 ∷ [])
     -- example 2: three closed rounds, the one that never closes, the order of work
     ∷ row (history-shown plan-a
     (grants 1 ∷ ticks (0 ∷ []) ∷ ticks (0 ∷ []) ∷ grants 0 ∷ ticks [] ∷ ticks [] ∷ grants 1 ∷ ticks (0 ∷ []) ∷ ticks (0 ∷ []) ∷ grants 1
@@ -652,34 +750,35 @@ program-rows =
 
 our-rows : List Row
 our-rows =
-    plan-rows ++ form-rows ++ lasting-rows ++ grant-rows ++ withdrawal-rows ++ tick-rows ++ steal-rows ++ last-tick-rows ++ quantum-rows
-    ++ log-rows ++ program-rows
+    plan-rows ++ form-rows ++ gentle-rows ++ lasting-rows ++ grant-rows ++ withdrawal-rows ++ tick-rows ++ steal-rows ++ last-tick-rows
+    ++ quantum-rows ++ log-rows ++ program-rows
 
 pub rows : List Row
 rows = document-rows ++ our-rows
 
 -- every row holds
 pub table : failing 0 rows ≡ []
-unfolding same row-holds failing task lasting form-bytes plan-bytes diamond one-task seven easy-seven wide-seven ten thirteen four-lines
-    link chain refusal after-calls quantum-kept shown-from shown answered listed placed labelled document-rows seven-tasks header-fields
-    fields-of task-fields fresh-with grant-number quantum-shown current-shown history-shown shown-twice half-of-five three-thieves
-    two-withdrawn four-at-work two-grants three-at-work then-three counted sums statuses-from statuses lasting-diamond one-lasting
-    after-first one-works one-logged ticks-left plan-rows form-rows lasting-rows grant-rows withdrawal-rows tick-rows steal-rows
+unfolding same row-holds failing task lasting form-bytes gentle-bytes plan-bytes diamond one-task seven easy-seven wide-seven ten thirteen
+    four-lines link chain refusal after-calls quantum-kept shown-from shown answered listed placed labelled desire-after document-rows
+    seven-tasks growth-number header-fields fields-of task-fields fresh-with grant-number quantum-shown current-shown history-shown
+    shown-twice half-of-five three-thieves two-withdrawn four-at-work two-grants three-at-work then-three counted sums statuses-from
+    statuses lasting-diamond one-lasting after-first one-works one-logged ticks-left gentle-diamond gentle-next last-powers from-the-top
+    gentle-chain single-rounds powers-shown plan-rows form-rows gentle-rows lasting-rows grant-rows withdrawal-rows tick-rows steal-rows
     last-tick-rows quantum-rows log-rows program-rows our-rows rows below every keep member count-set all-set occurrences zeros first-no
-    flatMap Plan.predecessors Plan.number Plan.header Plan.forms Plan.is-form Plan.form-with Plan.form-of Plan.task-bits
-    Plan.duration-field Plan.successor-fields Plan.plan-of Plan.fields-ok Plan.two-differ Plan.targets-ok Plan.task-questions
-    Plan.all-preceded Plan.one-exit Plan.header-questions Plan.graph-questions Plan.plan-questions Plan.plan-answer Machine.finished
-    Machine.fresh Machine.grant-questions Machine.kept-deques Machine.withdrawn-deques Machine.first-task-placed Machine.grant
-    Machine.tick-questions Machine.cycle-of Machine.ready Machine.released Machine.stolen-count Machine.left-by-steal
-    Machine.taken-by-steal Machine.worked-deque Machine.work-cycle Machine.mug-cycle Machine.successful-steal Machine.failed-steal
-    Machine.cycle Machine.turn-of Machine.turn Machine.cycles Machine.cycles-made Machine.ticked Machine.efficient Machine.satisfied
-    Machine.next-desire Machine.closes Machine.closed Machine.tick Machine.top-desires Machine.call-answer Machine.step Machine.status
-    History.beginning History.history-grant History.history-tick History.history-step History.run-from History.run History.tasks-in
-    WholeTicks.accepted-calls WholeTicks.granted-ticks Log.entries-up-to Log.entries Log.run-calls Log.run-log Log.log-answer
-    Label.lines-from Label.lines Label.label-answer Label.label Counters.decimal-up-to Counters.decimal Counters.spaced
-    Counters.counters Counters.counters-line Counters.counters-answer Counters.buffer-after Digits.first-above Digits.digit-count
-    Program.plan-length Program.plan-part Program.log-part Program.input-questions Program.refused-line Program.log-output
-    Program.program
+    flatMap Plan.predecessors Plan.number Plan.header Plan.forms Plan.is-form Plan.form-with Plan.form-of Plan.growth-field
+    Plan.utilization-field Plan.quantum-length-field Plan.task-bits Plan.duration-field Plan.successor-fields Plan.plan-of Plan.fields-ok
+    Plan.two-differ Plan.targets-ok Plan.task-questions Plan.all-preceded Plan.one-exit Plan.header-questions Plan.graph-questions
+    Plan.plan-questions Plan.plan-answer Machine.finished Machine.fresh Machine.grant-questions Machine.kept-deques Machine.withdrawn-deques
+    Machine.first-task-placed Machine.grant Machine.tick-questions Machine.cycle-of Machine.ready Machine.released Machine.stolen-count
+    Machine.left-by-steal Machine.taken-by-steal Machine.worked-deque Machine.work-cycle Machine.mug-cycle Machine.successful-steal
+    Machine.failed-steal Machine.cycle Machine.turn-of Machine.turn Machine.cycles Machine.cycles-made Machine.ticked Machine.efficient
+    Machine.satisfied Machine.next-wish Machine.closes Machine.closed Machine.tick Machine.top-desires Machine.whole-parts
+    Machine.call-answer Machine.step Machine.status History.beginning History.history-grant History.history-tick History.history-step
+    History.run-from History.run History.tasks-in WholeTicks.accepted-calls WholeTicks.granted-ticks Log.entries-up-to Log.entries
+    Log.run-calls Log.run-log Log.log-answer Label.lines-from Label.lines Label.label-answer Label.label Counters.decimal-up-to
+    Counters.decimal Counters.spaced Counters.counters Counters.counters-line Counters.counters-answer Counters.buffer-after
+    Digits.first-above Digits.digit-count Program.plan-length Program.plan-part Program.log-part Program.input-questions
+    Program.refused-line Program.log-output Program.program
 table = refl
 
 -- examples 3 and 4 by themselves, for a program that meets them from contracts alone: Plan A is accepted, a first grant of 2 is refused by
@@ -689,10 +788,31 @@ pub plan-a-begins : (plan-answer plan-a ≡ accepted) × (call-answer (grants 2)
 unfolding table
 plan-a-begins = (refl, refl, refl)
 
+-- ---- the statements of demand 3 at numbers: what they allow at most, and what is more
+
+-- a closed round with this k and wanted count
+abbrev round : ℕ → ℕ → ClosedQuantum
+round power wanted = record { power = power; wanted = wanted; granted = wanted; was-efficient = true; was-satisfied = true }
+
+-- 100 × (1 + 2) is 300; of 12 tenths 100 × (10 + 2 × 12) is 3,400
+pub limit-of-2 : Limit (by-factor 2) 10 10 3 1 × (Limit (by-factor 2) 43 7 1 1 → ⊥)
+limit-of-2 = (omega arith, λ above. omega arith)
+
+pub limit-of-12-tenths : Limit (by-tenths 12) 17 4 5 1 × (Limit (by-tenths 12) 31 11 1 1 → ⊥)
+limit-of-12-tenths = (omega arith, λ above. omega arith)
+
+-- "whose wanted count times R is its own"; "one power lower", where several powers have one whole part
+pub lower-of-2 : OneStepLower (by-factor 2) (round 0 4) (round 0 8) × (OneStepLower (by-factor 2) (round 0 4) (round 1 6) → ⊥)
+lower-of-2 = (refl, λ other. omega arith)
+
+pub lower-of-12-tenths : OneStepLower (by-tenths 12) (round 3 1) (round 4 2) × (OneStepLower (by-tenths 12) (round 4 2) (round 5 2))
+    × (OneStepLower (by-tenths 12) (round 2 1) (round 4 2) → ⊥)
+lower-of-12-tenths = (refl, refl, λ other. omega arith)
+
 -- ---- the table of the six top desires: one test over all of its entries. The crate `laws` makes it the rule at each entry.
 
 unfoldable pub powers : ℕ → List ℕ
-powers r = map (desire-at r) (below 7)
+powers r = map (desire-at (by-factor r)) (below 7)
 
 -- "the largest powers of R up to 64": a power of R, at most 64, and R times it exceeds 64
 unfoldable pub top-desire-right : ℕ → ℕ → Bool
@@ -706,3 +826,23 @@ top-desires-right r (top ∷ tops) = top-desire-right r top && top-desires-right
 pub top-desires-rule : top-desires-right 2 top-desires ≡ true
 unfolding powers top-desire-right top-desires-right below member top-desires
 top-desires-rule = refl
+
+-- ---- the nine rows of whole parts: one test over all entries of all rows. The crate `laws` makes it the rule of each row.
+
+-- an entry of t tenths: the whole part of the power k, at most 64
+unfoldable pub whole-part-right : ℕ → ℕ → ℕ → Bool
+whole-part-right t k entry = eqb entry (desire-at (by-tenths t) k) && leb entry most-workers
+
+-- the entries are those of the powers k, k + 1, .., and the next whole part exceeds 64
+unfoldable pub row-right : ℕ → ℕ → List ℕ → Bool
+row-right t k [] = ltb most-workers (desire-at (by-tenths t) k)
+row-right t k (entry ∷ row) = whole-part-right t k entry && row-right t (suc k) row
+
+-- the rows are those of t, t + 1, .. tenths
+unfoldable pub rows-right : ℕ → List (List ℕ) → Bool
+rows-right t [] = true
+rows-right t (row ∷ rows) = row-right t 0 row && rows-right (suc t) rows
+
+pub whole-parts-rule : rows-right 12 whole-parts ≡ true
+unfolding whole-part-right row-right rows-right whole-parts
+whole-parts-rule = refl

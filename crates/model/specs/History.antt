@@ -5,21 +5,23 @@ use Prim.Native.Nat.{ℕ}
 use Rattle.model.specs.Tests.{occurrences}
 use Rattle.model.specs.Questions.{by-answer}
 use Rattle.model.specs.Plan.{Plan}
-use Rattle.model.specs.Machine.{State, fresh, grant, tick, ticked, closes, efficient, satisfied}
+use Rattle.model.specs.Machine.{Wish, State, fresh, grant, tick, ticked, closes, efficient, satisfied}
 use Rattle.model.specs.Machine.{Cycle, works-on, mugs-deque, steals-from, steals-nothing, cycles-made, Call, grants, ticks}
 use Rattle.model.specs.Machine.{call-answer}
 
--- a closed quantum (round): its wanted and granted counts, "and, once closed, efficient or not and satisfied or not"
+-- a closed quantum (round): its wanted and granted counts, "and, once closed, efficient or not and satisfied or not". Request U14: "of each
+-- of their rounds the history keeps k too"
 pub record ClosedQuantum : Type 0 where
+  pub power : ℕ  -- k
   pub wanted : ℕ
   pub granted : ℕ
   pub was-efficient : Bool
   pub was-satisfied : Bool
 
--- the quantum that is not closed: none, or its wanted and granted counts. The one in which a job finishes never closes.
+-- the quantum that is not closed: none, or what was wanted, k and the count, and granted. The one in which a job finishes never closes.
 pub data CurrentQuantum : Type 0 where
   none : CurrentQuantum
-  begun-with : ℕ → ℕ → CurrentQuantum
+  begun-with : Wish → ℕ → CurrentQuantum
 
 -- the job's state, and what only the past knows
 pub record History : Type 0 where
@@ -37,19 +39,20 @@ history-grant g h =
     record {
       state = grant g (h .state);
       closed-quanta = h .closed-quanta;
-      current = begun-with (h .state .desire) g;
+      current = begun-with (h .state .wish) g;
       made = h .made;
     }
 
 -- the verdict on the quantum that a tick closes, from the wanted and granted counts with which it began and its usage
 abbrev pub verdict : Plan → CurrentQuantum → ℕ → List ClosedQuantum
 verdict plan none usage = []
-verdict plan (begun-with wanted granted) usage =
+verdict plan (begun-with wish granted) usage =
     record {
-      wanted = wanted;
+      power = wish .power;
+      wanted = wish .desire;
       granted = granted;
       was-efficient = efficient (plan .terms) usage granted;
-      was-satisfied = satisfied wanted granted;
+      was-satisfied = satisfied (wish .desire) granted;
     }
     ∷ []
 

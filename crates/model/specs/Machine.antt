@@ -6,7 +6,7 @@ use lib.Dec.{leb, ltb, eqb}
 use lib.ListN.{length, getD, take, drop, set, replicate}
 use Rattle.model.specs.Tests.{every, keep, is-empty, count-set, all-set, zeros}
 use Rattle.model.specs.Questions.{Question, ask, Answer, first-no, by-answer}
-use Rattle.model.specs.Plan.{Plan, Terms, Graph, successors-of, predecessors}
+use Rattle.model.specs.Plan.{Growth, by-factor, by-tenths, Plan, Terms, Graph, successors-of, predecessors}
 
 -- ---- what a job is
 
@@ -39,10 +39,15 @@ pub data Quantum : Type 0 where
   idle : Quantum  -- none is open
   opened : ℕ → Quantum  -- one is open, and has had so many ticks
 
+-- what a job wants
+pub record Wish : Type 0 where
+  pub power : ℕ  -- k: the wanted count is R to this power, or its whole part
+  pub desire : ℕ  -- the wanted count
+
 pub record State : Type 0 where
   pub execution : Execution
   pub started : Bool  -- a count above 0 was granted
-  pub desire : ℕ  -- the wanted count
+  pub wish : Wish
   pub quantum : Quantum
   pub begun : ℕ  -- how many quanta (rounds) have begun
 
@@ -71,13 +76,13 @@ no-counts =
       usage = 0;
     }
 
--- "A fresh job wants 1 and has 0 granted."
+-- "A fresh job wants 1 and has 0 granted." Request U14: "k starts at 0"
 unfoldable pub fresh : Plan → State
 fresh plan =
     record {
       execution = record { left = plan .durations; deques = []; muggable = []; counts = no-counts };
       started = false;
-      desire = 1;
+      wish = record { power = 0; desire = 1 };
       quantum = idle;
       begun = 0;
     }
@@ -99,7 +104,7 @@ grant-questions g s =
     ask (not (finished (s .execution))) 11
     ∷ ask (no-quantum-open (s .quantum)) 12
     ∷ ask (ltb (s .begun) quantum-limit) 13
-    ∷ ask (leb g (s .desire)) 14
+    ∷ ask (leb g (s .wish .desire)) 14
     ∷ []
 
 -- "If g exceeds the last granted count, the new workers have empty lines."
@@ -140,7 +145,7 @@ grant g s =
             counts = with-usage-0 (s .execution .counts);
           };
       started = cond (eqb g 0) (s .started) true;
-      desire = s .desire;
+      wish = s .wish;
       quantum = opened 0;
       begun = suc (s .begun);
     }
@@ -312,7 +317,7 @@ ticked plan choices s =
     record {
       execution = cycles (plan .graph) 0 choices (s .execution);
       started = s .started;
-      desire = s .desire;
+      wish = s .wish;
       quantum = opened (suc (ticks-of (s .quantum)));
       begun = s .begun;
     }
@@ -331,19 +336,34 @@ satisfied desire granted = eqb granted desire
 abbrev pub most-workers : ℕ
 most-workers = 64
 
--- "wanted is divided by R"
-abbrev pub lowered : Terms → ℕ → ℕ
-lowered terms desire = desire / terms .responsiveness
+-- the desire at the power k: R to the power k. Request U14, of form 3: "Wanted is the whole part of R to the power k."
+abbrev pub desire-at : Growth → ℕ → ℕ
+desire-at (by-factor r) k = r ^ k
+desire-at (by-tenths t) k = t ^ k / 10 ^ k
 
--- "multiplied by R, unless that exceeds 64"
-abbrev pub raised : Terms → ℕ → ℕ
-raised terms desire = cond (leb (desire * terms .responsiveness) most-workers) (desire * terms .responsiveness) desire
+-- the wish at the power k
+abbrev pub wish-at : Growth → ℕ → Wish
+wish-at growth k = record { power = k; desire = desire-at growth k }
+
+-- "wanted is divided by R". Request U14, of form 3: k "falls by one after an inefficient round"
+abbrev pub lowered : Growth → Wish → Wish
+lowered (by-factor r) wish = record { power = wish .power - 1; desire = wish .desire / r }
+lowered (by-tenths t) wish = wish-at (by-tenths t) (wish .power - 1)
+
+-- "multiplied by R". Request U14, of form 3: k "rises by one after an efficient and satisfied one"
+abbrev pub higher : Growth → Wish → Wish
+higher (by-factor r) wish = record { power = suc (wish .power); desire = wish .desire * r }
+higher (by-tenths t) wish = wish-at (by-tenths t) (suc (wish .power))
+
+-- "unless that exceeds 64". Request U14: "as long as the result is at most 64"
+abbrev pub raised : Growth → Wish → Wish
+raised growth wish = cond (leb (higher growth wish .desire) most-workers) (higher growth wish) wish
 
 -- the three cases: inefficient; efficient and satisfied; efficient and deprived
-unfoldable pub next-desire : Terms → ℕ → Bool → Bool → ℕ
-next-desire terms desire false satisfied = lowered terms desire
-next-desire terms desire true true = raised terms desire
-next-desire terms desire true false = desire
+unfoldable pub next-wish : Growth → Wish → Bool → Bool → Wish
+next-wish growth wish false satisfied = lowered growth wish
+next-wish growth wish true true = raised growth wish
+next-wish growth wish true false = wish
 
 -- "After L ticks of an unfinished job the round closes."
 unfoldable pub closes : Plan → State → Bool
@@ -353,14 +373,14 @@ abbrev pub efficient-now : Plan → State → Bool
 efficient-now plan s = efficient (plan .terms) (s .execution .counts .usage) (allotment s)
 
 abbrev pub satisfied-now : State → Bool
-satisfied-now s = satisfied (s .desire) (allotment s)
+satisfied-now s = satisfied (s .wish .desire) (allotment s)
 
 unfoldable pub closed : Plan → State → State
 closed plan s =
     record {
       execution = s .execution;
       started = s .started;
-      desire = next-desire (plan .terms) (s .desire) (efficient-now plan s) (satisfied-now s);
+      wish = next-wish (plan .terms .growth) (s .wish) (efficient-now plan s) (satisfied-now s);
       quantum = idle;
       begun = s .begun;
     }
@@ -377,9 +397,28 @@ top-desires = 64 ∷ 27 ∷ 64 ∷ 25 ∷ 36 ∷ 49 ∷ []
 abbrev pub top-desire : ℕ → ℕ
 top-desire responsiveness = getD top-desires (responsiveness - 2) 0
 
--- the desire after k raises
-abbrev pub desire-at : ℕ → ℕ → ℕ
-desire-at responsiveness k = responsiveness ^ k
+-- Request U14: "For each of the nine ratios a row of whole parts, up to 23 of them, serves": the rows, from 12 tenths, each up to its last
+-- whole part that is at most 64
+unfoldable pub whole-parts : List (List ℕ)
+whole-parts =
+    (1 ∷ 1 ∷ 1 ∷ 1 ∷ 2 ∷ 2 ∷ 2 ∷ 3 ∷ 4 ∷ 5 ∷ 6 ∷ 7 ∷ 8 ∷ 10 ∷ 12 ∷ 15 ∷ 18 ∷ 22 ∷ 26 ∷ 31 ∷ 38 ∷ 46 ∷ 55 ∷ [])
+    ∷ (1 ∷ 1 ∷ 1 ∷ 2 ∷ 2 ∷ 3 ∷ 4 ∷ 6 ∷ 8 ∷ 10 ∷ 13 ∷ 17 ∷ 23 ∷ 30 ∷ 39 ∷ 51 ∷ [])
+    ∷ (1 ∷ 1 ∷ 1 ∷ 2 ∷ 3 ∷ 5 ∷ 7 ∷ 10 ∷ 14 ∷ 20 ∷ 28 ∷ 40 ∷ 56 ∷ [])
+    ∷ (1 ∷ 1 ∷ 2 ∷ 3 ∷ 5 ∷ 7 ∷ 11 ∷ 17 ∷ 25 ∷ 38 ∷ 57 ∷ [])
+    ∷ (1 ∷ 1 ∷ 2 ∷ 4 ∷ 6 ∷ 10 ∷ 16 ∷ 26 ∷ 42 ∷ [])
+    ∷ (1 ∷ 1 ∷ 2 ∷ 4 ∷ 8 ∷ 14 ∷ 24 ∷ 41 ∷ [])
+    ∷ (1 ∷ 1 ∷ 3 ∷ 5 ∷ 10 ∷ 18 ∷ 34 ∷ 61 ∷ [])
+    ∷ (1 ∷ 1 ∷ 3 ∷ 6 ∷ 13 ∷ 24 ∷ 47 ∷ [])
+    ∷ (1 ∷ 2 ∷ 4 ∷ 8 ∷ 16 ∷ 32 ∷ 64 ∷ [])
+    ∷ []
+
+-- the last power of a row of 23
+abbrev pub last-power : ℕ
+last-power = 22
+
+-- the row of 12 to 20 tenths
+abbrev pub row-of : ℕ → List ℕ
+row-of tenths = getD whole-parts (tenths - 12) []
 
 -- ---- a call
 

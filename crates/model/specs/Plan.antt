@@ -9,9 +9,14 @@ use Rattle.model.specs.Questions.{Question, ask, Answer, first-no}
 
 -- ---- the plan
 
+-- R, the responsiveness: how the wanted count grows
+pub data Growth : Type 0 where
+  by-factor : ℕ → Growth  -- forms 1 and 2: a whole number
+  by-tenths : ℕ → Growth  -- form 3: so many tenths
+
 -- what the ticks and the end of every quantum (round) go by
 pub record Terms : Type 0 where
-  pub responsiveness : ℕ  -- R
+  pub growth : Growth  -- R
   pub utilization : ℕ  -- D, in percent
   pub quantum-length : ℕ  -- L, ticks of a quantum
 
@@ -71,46 +76,75 @@ header bytes = number bytes 0 5
 abbrev pub form-field : List ℕ → ℕ
 form-field bytes = field 4 36 (header bytes)
 
-abbrev pub responsiveness-field : List ℕ → ℕ
-responsiveness-field bytes = field 3 33 (header bytes)
-
-abbrev pub utilization-field : List ℕ → ℕ
-utilization-field bytes = field 7 26 (header bytes)
-
-abbrev pub quantum-length-field : List ℕ → ℕ
-quantum-length-field bytes = field 16 10 (header bytes)
-
--- "number of pieces N less one, 10"
-abbrev pub task-count : List ℕ → ℕ
-task-count bytes = field 10 0 (header bytes) + 1
-
--- a plan form: its number, and how the bits of a task are laid out
+-- a plan form: its number, and how the bits of the header and of a task are laid out
 pub record Form : Type 0 where
   pub code : ℕ  -- what the header's form field holds
+  pub growth-bits : ℕ  -- the header's bits of R
+  pub in-tenths : Bool  -- they count tenths
+  pub length-bits : ℕ  -- its bits of L
   pub task-bytes : ℕ  -- the bytes of a task
   pub duration-bits : ℕ  -- its last so many bits are its ticks; where they are none every task lasts one tick
 
--- the forms. Document 01: "Then 24 bits a piece". Request U9: "Plan form 2 has the same header and 32 bits a piece: the three old fields
--- and 8 bits of ticks"
+-- the forms. Document 01: "form 4, value 1; R 3; D 7; L 16; number of pieces N less one, 10. Then 24 bits a piece". Request U9: "Plan form
+-- 2 has the same header and 32 bits a piece: the three old fields and 8 bits of ticks". Request U14: "Plan form 3 packs form 4 bits, R in
+-- tenths 5, D 7, L 14, N less one 10, and has form 1's pieces."
+abbrev pub form-1 : Form
+form-1 = record { code = 1; growth-bits = 3; in-tenths = false; length-bits = 16; task-bytes = 3; duration-bits = 0 }
+
+abbrev pub form-2 : Form
+form-2 = record { code = 2; growth-bits = 3; in-tenths = false; length-bits = 16; task-bytes = 4; duration-bits = 8 }
+
+abbrev pub form-3 : Form
+form-3 = record { code = 3; growth-bits = 5; in-tenths = true; length-bits = 14; task-bytes = 3; duration-bits = 0 }
+
 unfoldable pub forms : List Form
-forms =
-    record { code = 1; task-bytes = 3; duration-bits = 0 }
-    ∷ record { code = 2; task-bytes = 4; duration-bits = 8 }
-    ∷ []
+forms = form-1 ∷ form-2 ∷ form-3 ∷ []
 
 -- a form of that number is among them
 unfoldable pub is-form : ℕ → List Form → Bool
 is-form code [] = false
 is-form code (form ∷ others) = cond (eqb code (form .code)) true (is-form code others)
 
+-- no form: document 01's header, and tasks without bytes
+abbrev pub no-form : Form
+no-form = record { code = 0; growth-bits = 3; in-tenths = false; length-bits = 16; task-bytes = 0; duration-bits = 0 }
+
 -- the form of that number; where there is none question 2 says no, and nothing else of the bytes is looked at
 unfoldable pub form-with : ℕ → List Form → Form
-form-with code [] = record { code = 0; task-bytes = 0; duration-bits = 0 }
+form-with code [] = no-form
 form-with code (form ∷ others) = cond (eqb code (form .code)) form (form-with code others)
 
 -- the form of the bytes
 unfoldable pub form-of : List ℕ → Form
 form-of bytes = form-with (form-field bytes) forms
+
+-- the header's other fields, by the form
+abbrev pub growth-field-of : Form → ℕ → ℕ
+growth-field-of form bits = field (form .growth-bits) (17 + form .length-bits) bits
+
+abbrev pub utilization-field-of : Form → ℕ → ℕ
+utilization-field-of form bits = field 7 (10 + form .length-bits) bits
+
+abbrev pub quantum-length-field-of : Form → ℕ → ℕ
+quantum-length-field-of form bits = field (form .length-bits) 10 bits
+
+-- R as a form has it
+abbrev pub growth-with : Bool → ℕ → Growth
+growth-with false r = by-factor r
+growth-with true t = by-tenths t
+
+unfoldable pub growth-field : List ℕ → Growth
+growth-field bytes = growth-with (form-of bytes .in-tenths) (growth-field-of (form-of bytes) (header bytes))
+
+unfoldable pub utilization-field : List ℕ → ℕ
+utilization-field bytes = utilization-field-of (form-of bytes) (header bytes)
+
+unfoldable pub quantum-length-field : List ℕ → ℕ
+quantum-length-field bytes = quantum-length-field-of (form-of bytes) (header bytes)
+
+-- "number of pieces N less one, 10"
+abbrev pub task-count : List ℕ → ℕ
+task-count bytes = field 10 0 (header bytes) + 1
 
 -- the fields of a task, most significant first: successor count 2, first successor 11, second successor 11, ticks
 unfoldable pub task-bits : List ℕ → ℕ → ℕ
@@ -145,7 +179,7 @@ plan-of bytes =
     record {
       terms =
           record {
-            responsiveness = responsiveness-field bytes;
+            growth = growth-field bytes;
             utilization = utilization-field bytes;
             quantum-length = quantum-length-field bytes;
           };
@@ -190,12 +224,18 @@ all-preceded graph =
 unfoldable pub one-exit : Graph → Bool
 one-exit graph = every (λ t. Bool·beq (is-empty (successors-of graph t)) (eqb (t + 1) (tasks graph))) (below (tasks graph))
 
--- 2 has "Is the form 1?" in document 01. Request U9: "Question 2 now admits form 2, and question 6 then reads 5 + 4 × N."
+-- 3: "Is R at least 2?". Request U14: "for it question 3 asks for 12 to 20 tenths"
+abbrev pub growth-ok : Growth → Bool
+growth-ok (by-factor r) = leb 2 r
+growth-ok (by-tenths t) = leb 12 t && leb t 20
+
+-- 2 has "Is the form 1?" in document 01. Request U9: "Question 2 now admits form 2, and question 6 then reads 5 + 4 × N." Request U14:
+-- "Question 2 admits form 3"
 unfoldable pub header-questions : List ℕ → List Question
 header-questions bytes =
     ask (leb 5 (length bytes)) 1
     ∷ ask (is-form (form-field bytes) forms) 2
-    ∷ ask (leb 2 (responsiveness-field bytes)) 3
+    ∷ ask (growth-ok (growth-field bytes)) 3
     ∷ ask (leb 1 (utilization-field bytes) && leb (utilization-field bytes) 100) 4
     ∷ ask (leb 1 (quantum-length-field bytes)) 5
     ∷ ask (eqb (length bytes) (5 + form-of bytes .task-bytes * task-count bytes)) 6

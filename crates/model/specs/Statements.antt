@@ -1,5 +1,6 @@
 -- The demands as statements over a plan and a whole list of calls, refused ones included. They are proved in the crate `laws`.
--- Each is for any responsiveness R of 2 or more, but for those on the table of top desires, which is for an R of 2 to 7.
+-- Each is for any responsiveness R of 2 or more, or of 12 to 20 tenths, but for those on the table of top desires, which is for an R of 2
+-- to 7.
 use mathlib.Core.Path.{_≡_}
 use mathlib.Core.Bool.{true, false}
 use mathlib.Core.Logic.{_↔_}
@@ -8,16 +9,21 @@ use Prim.Native.Nat.{ℕ, suc, _+_, _*_, _-_, _≤_, _<_}
 use lib.ListN.{length, getD, take}
 use Rattle.model.specs.Tests.{occurrences}
 use Rattle.model.specs.Questions.{accepted}
-use Rattle.model.specs.Plan.{Plan, Terms, Graph, tasks, successors-of, predecessors, duration-of, most-tasks, longest-quantum}
-use Rattle.model.specs.Plan.{longest-duration}
-use Rattle.model.specs.Machine.{worked, State, Call, ticks, call-answer, allotment, status, desire-at, most-workers}
-use Rattle.model.specs.Machine.{ticked, closes, efficient-now, satisfied-now, next-desire, top-desire}
+use Rattle.model.specs.Plan.{Growth, by-factor, by-tenths, Plan, Terms, Graph, tasks, successors-of, predecessors, duration-of}
+use Rattle.model.specs.Plan.{most-tasks, longest-quantum, longest-duration}
+use Rattle.model.specs.Machine.{worked, Wish, State, Call, ticks, call-answer, allotment, status, desire-at, most-workers}
+use Rattle.model.specs.Machine.{ticked, closes, efficient-now, satisfied-now, next-wish, top-desire, row-of, last-power}
 use Rattle.model.specs.History.{ClosedQuantum, History, run, history-step, work-count, mug-count, work-order}
 
 -- ---- what an accepted plan is: the plan rules, as facts about the plan
 
+-- question 3: "Is R at least 2?"; of form 3 "12 to 20 tenths"
+abbrev pub Responsive : Growth → Type 0
+Responsive (by-factor r) = 2 ≤ r
+Responsive (by-tenths t) = (12 ≤ t) × (t ≤ 20)
+
 pub record SoundTerms (terms : Terms) : Type 0 where
-  pub responsive : 2 ≤ terms .responsiveness
+  pub responsive : Responsive (terms .growth)
   pub utilized : 1 ≤ terms .utilization
   pub percent : terms .utilization ≤ 100
   pub timed : 1 ≤ terms .quantum-length
@@ -42,23 +48,32 @@ pub record SoundPlan (plan : Plan) : Type 0 where
   pub each-lasts : length (plan .durations) ≡ tasks (plan .graph)
   pub lasting : (t : ℕ) → t < tasks (plan .graph) → 1 ≤ duration-of plan t
 
+-- R of 3 bits, or of 5 bits in tenths
+abbrev pub GrowthMost : Growth → Type 0
+GrowthMost (by-factor r) = r ≤ 7
+GrowthMost (by-tenths t) = t ≤ 31
+
 -- what the field widths bound
 pub record WithinBounds (plan : Plan) : Type 0 where
   pub tasks-most : tasks (plan .graph) ≤ most-tasks
   pub quantum-most : plan .terms .quantum-length ≤ longest-quantum
-  pub responsiveness-most : plan .terms .responsiveness ≤ 7
+  pub growth-most : GrowthMost (plan .terms .growth)
   pub durations-most : (t : ℕ) → duration-of plan t ≤ longest-duration
 
 -- ---- demand 3
 
--- M × L × D ≤ 100 × (1 + R) × (W + M)
+-- of M mugs and W + M work and mug ticks: M × L × D ≤ 100 × (1 + R) × (W + M). Request U14, of t tenths: "M × L × D × 10 is at most
+-- 100 × (10 + 2 × t) × (W + M)"
+abbrev pub Limit : Growth → (m l d both : ℕ) → Type 0
+Limit (by-factor r) m l d both = m * l * d ≤ 100 * (1 + r) * both
+Limit (by-tenths t) m l d both = m * l * d * 10 ≤ 100 * (10 + 2 * t) * both
+
 abbrev pub MugLimit : Plan → History → Type 0
 MugLimit plan h =
-    mug-count h * plan .terms .quantum-length * plan .terms .utilization
-    ≤ 100 * (1 + plan .terms .responsiveness) * (work-count h + mug-count h)
+    Limit (plan .terms .growth) (mug-count h) (plan .terms .quantum-length) (plan .terms .utilization) (work-count h + mug-count h)
 
 abbrev pub no-quantum : ClosedQuantum
-no-quantum = record { wanted = 0; granted = 0; was-efficient = true; was-satisfied = false }
+no-quantum = record { power = 0; wanted = 0; granted = 0; was-efficient = true; was-satisfied = false }
 
 -- the closed quantum of that number, counted from 0 in the order in which they began
 abbrev pub nth : List ClosedQuantum → ℕ → ClosedQuantum
@@ -67,6 +82,11 @@ nth quanta i = getD quanta i no-quantum
 abbrev pub Inefficient : List ClosedQuantum → ℕ → Type 0
 Inefficient quanta i = (i < length quanta) × (nth quanta i .was-efficient ≡ false)
 
+-- an earlier round's "wanted count times R is its own". Request U14, of form 3: "the paired earlier round is one power lower"
+abbrev pub OneStepLower : Growth → ClosedQuantum → ClosedQuantum → Type 0
+OneStepLower (by-factor r) earlier own = earlier .wanted * r ≡ own .wanted
+OneStepLower (by-tenths t) earlier own = earlier .power + 1 ≡ own .power
+
 -- "each closed inefficient round has an earlier closed, efficient and satisfied round whose wanted count times R is its own, and no two
 -- share one"
 pub record Pairing (plan : Plan) (quanta : List ClosedQuantum) : Type 0 where
@@ -74,19 +94,20 @@ pub record Pairing (plan : Plan) (quanta : List ClosedQuantum) : Type 0 where
   pub earlier : (i : ℕ) → Inefficient quanta i → partner i < i
   pub efficient : (i : ℕ) → Inefficient quanta i → nth quanta (partner i) .was-efficient ≡ true
   pub satisfied : (i : ℕ) → Inefficient quanta i → nth quanta (partner i) .was-satisfied ≡ true
-  pub wanted : (i : ℕ) → Inefficient quanta i → nth quanta (partner i) .wanted * plan .terms .responsiveness ≡ nth quanta i .wanted
+  pub lower : (i : ℕ) → Inefficient quanta i → OneStepLower (plan .terms .growth) (nth quanta (partner i)) (nth quanta i)
   pub unshared : (i j : ℕ) → Inefficient quanta i → Inefficient quanta j → partner i ≡ partner j → i ≡ j
 
 pub record Demand3 (plan : Plan) (calls : List Call) : Type 0 where
   pub limit : MugLimit plan (run plan calls)
   pub pairing : Pairing plan (run plan calls .closed-quanta)
 
--- where L × D > 100 × (1 + R) the limit bounds the mugs by the work alone
+-- where L × D > 100 × (1 + R), and for t tenths where 10 × L × D > 100 × (10 + 2 × t), the limit bounds the mugs by the work alone
+abbrev pub Bound : Growth → (m ld w : ℕ) → Type 0
+Bound (by-factor r) m ld w = 100 * (1 + r) < ld → m * (ld - 100 * (1 + r)) ≤ 100 * (1 + r) * w
+Bound (by-tenths t) m ld w = 100 * (10 + 2 * t) < ld * 10 → m * (ld * 10 - 100 * (10 + 2 * t)) ≤ 100 * (10 + 2 * t) * w
+
 abbrev pub MugBound : Plan → History → Type 0
-MugBound plan h =
-    100 * (1 + plan .terms .responsiveness) < plan .terms .quantum-length * plan .terms .utilization →
-    mug-count h * (plan .terms .quantum-length * plan .terms .utilization - 100 * (1 + plan .terms .responsiveness))
-    ≤ 100 * (1 + plan .terms .responsiveness) * work-count h
+MugBound plan h = Bound (plan .terms .growth) (mug-count h) (plan .terms .quantum-length * plan .terms .utilization) (work-count h)
 
 -- ---- its companions
 
@@ -126,11 +147,18 @@ Progress plan h =
 abbrev pub OneIsEfficient : List ClosedQuantum → Type 0
 OneIsEfficient quanta = (i : ℕ) → Inefficient quanta i → 1 < nth quanta i .wanted
 
--- the wanted count is a power of R, at most 64; so the divisions are exact
+-- k never falls below 0: an inefficient round has a power to fall from
+abbrev pub FallsFromAbove : List ClosedQuantum → Type 0
+FallsFromAbove quanta = (i : ℕ) → Inefficient quanta i → 1 ≤ nth quanta i .power
+
+-- the wanted count is that of its power, and at most 64: a power of R, so that the divisions are exact, or the whole part of one. "up to 23
+-- of them": the power is at most 22. And so it was in every closed round
 pub record DesireIsPower (plan : Plan) (h : History) : Type 0 where
-  pub power : ℕ
-  pub is-power : h .state .desire ≡ desire-at (plan .terms .responsiveness) power
-  pub at-most : h .state .desire ≤ most-workers
+  pub is-power : h .state .wish .desire ≡ desire-at (plan .terms .growth) (h .state .wish .power)
+  pub at-most : h .state .wish .desire ≤ most-workers
+  pub power-at-most : h .state .wish .power ≤ last-power
+  pub was-power : (i : ℕ) → i < length (h .closed-quanta) →
+      nth (h .closed-quanta) i .wanted ≡ desire-at (plan .terms .growth) (nth (h .closed-quanta) i .power)
 
 -- ---- a quantum's end
 
@@ -138,16 +166,18 @@ pub record DesireIsPower (plan : Plan) (h : History) : Type 0 where
 abbrev pub ending : Plan → State → ClosedQuantum
 ending plan s =
     record {
-      wanted = s .desire;
+      power = s .wish .power;
+      wanted = s .wish .desire;
       granted = allotment s;
       was-efficient = efficient-now plan s;
       was-satisfied = satisfied-now s;
     }
 
--- a history after a quantum's end: the quantum is the last of those closed, and the wanted count moved by its verdict
+-- a history after a quantum's end: the quantum is the last of those closed, and what is wanted moved by its verdict
 pub record Judged (plan : Plan) (before after : History) (q : ClosedQuantum) : Type 0 where
   pub recorded : after .closed-quanta ≡ before .closed-quanta ++ q ∷ []
-  pub moved : after .state .desire ≡ next-desire (plan .terms) (q .wanted) (q .was-efficient) (q .was-satisfied)
+  pub moved : after .state .wish
+      ≡ next-wish (plan .terms .growth) (record { power = q .power; desire = q .wanted }) (q .was-efficient) (q .was-satisfied)
 
 -- the history judges a quantum by the counts that it kept of it, the state by those that it shows when the quantum closes: they agree
 abbrev pub EndsAsRecorded : Plan → History → Type 0
@@ -155,20 +185,37 @@ EndsAsRecorded plan h =
     (choices : List ℕ) → call-answer (ticks choices) (h .state) ≡ accepted → closes plan (ticked plan choices (h .state)) ≡ true →
     Judged plan h (history-step plan (ticks choices) h) (ending plan (ticked plan choices (h .state)))
 
--- ---- the table of the six top desires
+-- ---- the table of the six top desires, and the nine rows of whole parts
 
 -- "the largest powers of R up to 64": a power of R, at most 64, and R times it exceeds 64
 pub record TopDesire (responsiveness top : ℕ) : Type 0 where
   pub power : ℕ
-  pub is-power : top ≡ desire-at responsiveness power
+  pub is-power : top ≡ desire-at (by-factor responsiveness) power
   pub at-most : top ≤ most-workers
   pub largest : most-workers < top * responsiveness
 
+-- a row of t tenths: the whole parts of the powers, in their order, at most 64 each; and the next one exceeds 64
+pub record WholeParts (t : ℕ) (row : List ℕ) : Type 0 where
+  pub is-whole-part : (k : ℕ) → k < length row → getD row k 0 ≡ desire-at (by-tenths t) k
+  pub at-most : (k : ℕ) → k < length row → getD row k 0 ≤ most-workers
+  pub up-to-64 : most-workers < desire-at (by-tenths t) (length row)
+
 -- "So it stops at the largest powers of R up to 64, for R = 2 to 7": the wanted count never exceeds the table's entry; an efficient and
 -- satisfied end multiplies it by R below the entry, and leaves it at the entry
-pub record StopsAtTop (plan : Plan) (h : History) : Type 0 where
-  pub at-most : h .state .desire ≤ top-desire (plan .terms .responsiveness)
-  pub rises : h .state .desire < top-desire (plan .terms .responsiveness) →
-      next-desire (plan .terms) (h .state .desire) true true ≡ h .state .desire * plan .terms .responsiveness
-  pub stays : h .state .desire ≡ top-desire (plan .terms .responsiveness) →
-      next-desire (plan .terms) (h .state .desire) true true ≡ h .state .desire
+pub record StopsAtTop (r : ℕ) (wish : Wish) : Type 0 where
+  pub at-most : wish .desire ≤ top-desire r
+  pub rises : wish .desire < top-desire r → next-wish (by-factor r) wish true true .desire ≡ wish .desire * r
+  pub stays : wish .desire ≡ top-desire r → next-wish (by-factor r) wish true true ≡ wish
+
+-- of t tenths: k is a place of the row, and the wanted count its entry; an efficient and satisfied end goes to the next entry, and stays at
+-- the last
+pub record StopsAtRowEnd (t : ℕ) (wish : Wish) : Type 0 where
+  pub inside : wish .power < length (row-of t)
+  pub looked-up : wish .desire ≡ getD (row-of t) (wish .power) 0
+  pub rises : wish .power + 1 < length (row-of t) →
+      next-wish (by-tenths t) wish true true ≡ record { power = wish .power + 1; desire = getD (row-of t) (wish .power + 1) 0 }
+  pub stays : wish .power + 1 ≡ length (row-of t) → next-wish (by-tenths t) wish true true ≡ wish
+
+abbrev pub Stops : Growth → Wish → Type 0
+Stops (by-factor r) wish = StopsAtTop r wish
+Stops (by-tenths t) wish = StopsAtRowEnd t wish

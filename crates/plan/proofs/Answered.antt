@@ -9,7 +9,8 @@ use lib.ListN.{length, getD, set, drop}
 use Rattle.model.specs.Tests.{below, every}
 use Rattle.model.specs.Questions.{Answer, accepted, ask, first-no}
 use Rattle.model.specs.Plan.{header, task-count, task-questions, header-questions, graph-questions, all-preceded, one-exit, plan-of}
-use Rattle.model.specs.Plan.{plan-answer, form-of}
+use Rattle.model.specs.Plan.{plan-answer, forms, form-with, form-of, field, growth-with, growth-field, utilization-field}
+use Rattle.model.specs.Plan.{quantum-length-field}
 use Rattle.memory.specs.Parts.{Parts, parts}
 use Rattle.memory.proofs.Regions.{store-pending}
 use Rattle.plan_fields.specs.declared.PlanAnswer.{PlanAnswer}
@@ -88,18 +89,25 @@ unfolding header-questions first-no
 short bytes l = sym (answer-parts bytes ∙ rw (lt-leb 5 (length bytes) l))
 
 module _ (bytes : List ℕ) (h : Header) (long-enough : 5 ≤ length bytes)
-    (fields : HeaderOf (five-bytes (getD bytes 0 0) (getD bytes 1 0) (getD bytes 2 0) (getD bytes 3 0) (getD bytes 4 0)) h) where
-  header-of-bytes : HeaderOf (header bytes) h
+    (fields :
+    let bits = five-bytes (getD bytes 0 0) (getD bytes 1 0) (getD bytes 2 0) (getD bytes 3 0) (getD bytes 4 0) in
+    HeaderOf (form-with (field 4 36 bits) forms) bits h) where
+  header-of-bytes : HeaderOf (form-of bytes) (header bytes) h
+  unfolding form-of
   header-of-bytes = rw (header-bytes bytes) fields
 
   abbrev asked-fields : Answer
-  asked-fields = first-no (field-questions (h .form) (h .responsiveness) (h .utilization) (h .quantum) (h .tasks) (length bytes))
+  asked-fields =
+      first-no
+      (field-questions (h .form) (growth-with (h .«in_tenths») (h .responsiveness)) (h .utilization) (h .quantum) (h .tasks)
+      (length bytes))
 
   header-asked : asked-fields ≡ first-no (header-questions bytes)
-  unfolding field-questions header-questions first-no form-of
+  unfolding field-questions header-questions first-no form-of growth-field utilization-field quantum-length-field
   header-asked =
       rw (
         header-of-bytes .form-read,
+        header-of-bytes .tenths-read,
         header-of-bytes .responsiveness-read,
         header-of-bytes .utilization-read,
         header-of-bytes .quantum-read,
@@ -169,13 +177,13 @@ module _ (bytes : List ℕ) (h : Header) (read : HeaderRead bytes h) where
           (sym (question-10 bytes p all-held) ∙ rw tasks-number at fails))
 
       pub accepted-whole : nine-asked ≡ true → ten-asked ≡ true → (r : Heading) → r .answer ≡ Accepted →
-          r .responsiveness ≡ h .responsiveness → r .utilization ≡ h .utilization →
+          r .«in_tenths» ≡ h .«in_tenths» → r .responsiveness ≡ h .responsiveness → r .utilization ≡ h .utilization →
           r .«quantum_length» ≡ h .quantum → r .tasks ≡ h .tasks → HeadingRead bytes r (set memory 3072 0)
-      accepted-whole nine ten r e e-r e-u e-q e-n =
+      accepted-whole nine ten r e e-t e-r e-u e-q e-n =
           let passed =
           two-accepted 9 10 (sym (question-9 bytes p all-held) ∙ rw tasks-number at nine)
           (sym (question-10 bytes p all-held) ∙ rw tasks-number at ten) in
           right-acceptance bytes r (set memory 3072 0) (graph-left ∙ passed) e
           (memory-holds bytes p all-held r (set memory 3072 0) (store-pending memory 0 0 (omega arith))
-          (e-r ∙ read .fields .responsiveness-read) (e-u ∙ read .fields .utilization-read)
+          (e-t ∙ read .fields .tenths-read) (e-r ∙ read .fields .responsiveness-read) (e-u ∙ read .fields .utilization-read)
           (e-q ∙ read .fields .quantum-read) (e-n ∙ tasks-number))

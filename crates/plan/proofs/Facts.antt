@@ -9,7 +9,9 @@ use lib.Dec.{leb, ltb, eqb}
 use lib.ListN.{length}
 use Rattle.model.specs.Tests.{every}
 use Rattle.model.specs.Questions.{accepted, first-no}
-use Rattle.model.specs.Plan.{tasks, successors-of, form-field, responsiveness-field, utilization-field, quantum-length-field, task-count}
+use Rattle.model.specs.Plan.{tasks, successors-of, form-field, growth-ok, growth-field, utilization-field, task-count}
+use Rattle.model.specs.Plan.{Growth, by-factor, by-tenths, quantum-length-field}
+use Rattle.model.specs.Statements.{Responsive}
 use Rattle.model.specs.Plan.{count-field, first-field, second-field, used-fields, successor-fields, plan-of, fields-ok, two-differ}
 use Rattle.model.specs.Plan.{targets-ok, task-questions, header-questions, forms, is-form, form-of, duration-field}
 use Rattle.lists.proofs.Tests.{true-is-not-false, and-left, and-right, both}
@@ -29,10 +31,20 @@ successors-given bytes t h = table-at (successor-fields bytes) (task-count bytes
 
 -- ---- the header
 
+-- question 3 of either growth
+responsive-of : (growth : Growth) → growth-ok growth ≡ true → Responsive growth
+responsive-of (by-factor r) passed = leb-true 2 r passed
+responsive-of (by-tenths t) passed =
+    (leb-true 12 t (and-left (leb 12 t) (leb t 20) passed), leb-true t 20 (and-right (leb 12 t) (leb t 20) passed))
+
+growth-accepted : (growth : Growth) → Responsive growth → growth-ok growth ≡ true
+growth-accepted (by-factor r) h = le-leb 2 r h
+growth-accepted (by-tenths t) h = rw (le-leb 12 t (h .0), le-leb t 20 (h .1)) refl
+
 pub record HeaderFacts (bytes : List ℕ) : Type 0 where
   pub long-enough : 5 ≤ length bytes
   pub known-form : is-form (form-field bytes) forms ≡ true
-  pub responsive : 2 ≤ responsiveness-field bytes
+  pub responsive : Responsive (growth-field bytes)
   pub utilized : 1 ≤ utilization-field bytes
   pub percent : utilization-field bytes ≤ 100
   pub timed : 1 ≤ quantum-length-field bytes
@@ -50,7 +62,7 @@ header-facts bytes h =
     record {
       long-enough = leb-true _ _ (a .0);
       known-form = b .0;
-      responsive = leb-true _ _ (c .0);
+      responsive = responsive-of (growth-field bytes) (c .0);
       utilized = leb-true _ _ (and-left (leb 1 (utilization-field bytes)) (leb (utilization-field bytes) 100) (d .0));
       percent = leb-true _ _ (and-right (leb 1 (utilization-field bytes)) (leb (utilization-field bytes) 100) (d .0));
       timed = leb-true _ _ (e .0);
@@ -63,7 +75,7 @@ header-accepted bytes h =
     rw (
       le-leb 5 (length bytes) (h .long-enough),
       h .known-form,
-      le-leb 2 (responsiveness-field bytes) (h .responsive),
+      growth-accepted (growth-field bytes) (h .responsive),
       le-leb 1 (utilization-field bytes) (h .utilized),
       le-leb (utilization-field bytes) 100 (h .percent),
       le-leb 1 (quantum-length-field bytes) (h .timed),

@@ -1,16 +1,21 @@
--- The plan forms: which there are, where the bytes of a task stand, and that a task lasts at most 255 ticks. Form 1's tasks last one tick.
+-- The plan forms: which there are, where the bytes of a task stand, and how large the fields can be. The tasks of forms 1 and 3 last one
+-- tick.
 use mathlib.Core.Path.{_≡_, refl, sym, _∙_}
-use mathlib.Core.Bool.{Bool, true, false, cond}
+use mathlib.Core.Bool.{true, cond}
+use mathlib.Core.Logic.{_⊎_, inl, inr}
 use mathlib.Core.List.{List}
 use Prim.Native.Nat.{ℕ, zero, suc, _+_, _*_, _≤_, _<_}
 use native.Mathlib.Nat.{add-zero, mul-suc, mul-le-mul}
 use native.Mathlib.Omega.{arith}
-use borrow.Author.Tests.{eqb-true}
 use lib.Dec.{eqb}
 use lib.ListN.{length, getD}
-use Rattle.model.specs.Plan.{Form, forms, is-form, form-with, form-of, form-field, number, field, task-bits, task-count, duration-field}
-use Rattle.model.specs.Plan.{plan-of, duration-of, longest-duration}
-use Rattle.plan_fields.specs.Fields.{form-1, form-2, three-bytes, four-bytes}
+use Rattle.model.specs.Plan.{Form, form-1, form-2, form-3, no-form, forms, is-form, form-with, form-of, form-field, number, field, header}
+use Rattle.model.specs.Plan.{task-bits, task-count, duration-field, growth-field-of, utilization-field-of, quantum-length-field-of}
+use Rattle.model.specs.Plan.{growth-with, growth-field, plan-of, duration-of, longest-duration, longest-quantum}
+use Rattle.model.specs.Statements.{GrowthMost}
+use Rattle.plan_fields.specs.declared.TaskFields.{TaskFields}
+use Rattle.plan_fields.specs.Fields.{TaskOf, three-bytes, four-bytes}
+use Rattle.plan_fields.proofs.Forms.{FormIs, is-one, is-two, is-three, is-none, which-form, four-for-2, three-for-others}
 use Rattle.lists.proofs.Tests.{true-is-not-false}
 use Rattle.lists.proofs.Tables.{table-at, table-length}
 use Rattle.lists.proofs.Sums.{some-within}
@@ -20,46 +25,51 @@ use Rattle.lists.proofs.Sums.{some-within}
 data KnownForm (bytes : List ℕ) : Type 0 where
   is-1 : form-of bytes ≡ form-1 → KnownForm bytes
   is-2 : form-of bytes ≡ form-2 → KnownForm bytes
+  is-3 : form-of bytes ≡ form-3 → KnownForm bytes
 
 known-form : (bytes : List ℕ) → is-form (form-field bytes) forms ≡ true → KnownForm bytes
-unfolding is-form forms form-with form-of
-known-form bytes h = by (eqb (form-field bytes) 1) refl (eqb (form-field bytes) 2) refl h
+unfolding form-of is-form forms
+known-form bytes h = by (which-form (form-field bytes))
   where
-    by : (a : Bool) → eqb (form-field bytes) 1 ≡ a → (b : Bool) → eqb (form-field bytes) 2 ≡ b → cond a true (cond b true false) ≡ true →
-        KnownForm bytes
-    by true e b f h = is-1 (rw (eqb-true (form-field bytes) 1 e))
-    by false e true f h = is-2 (rw (eqb-true (form-field bytes) 2 f))
-    by false e false f h = absurd (true-is-not-false h refl)
+    by : FormIs (form-field bytes) → KnownForm bytes
+    by (is-one e row) = is-1 row
+    by (is-two e row) = is-2 row
+    by (is-three e row) = is-3 row
+    by (is-none e row) = absurd (true-is-not-false h (rw (e .0, e .1, e .2) refl))
 
 -- the bytes of a task, by the number of the form
 module _ (bytes : List ℕ) {form : ℕ} (given : form ≡ form-field bytes) where
   pub four-in-2 : form ≡ 2 → 4 ≡ form-of bytes .task-bytes
-  unfolding form-of form-with forms
-  four-in-2 two = rw (sym given ∙ two)
+  unfolding form-of
+  four-in-2 two = four-for-2 (form-field bytes) (sym given ∙ two)
 
-  pub three-in-1 : is-form (form-field bytes) forms ≡ true → (form ≡ 2 → ⊥) → 3 ≡ form-of bytes .task-bytes
-  unfolding form-of form-with forms is-form
-  three-in-1 known other = by (eqb (form-field bytes) 1) refl (eqb (form-field bytes) 2) refl known
-    where
-      by : (a : Bool) → eqb (form-field bytes) 1 ≡ a → (b : Bool) → eqb (form-field bytes) 2 ≡ b → cond a true (cond b true false) ≡ true →
-          3 ≡ cond a form-1 (cond b form-2 (record { code = 0; task-bytes = 0; duration-bits = 0 })) .task-bytes
-      by true e b f h = refl
-      by false e true f h = absurd (other (given ∙ eqb-true (form-field bytes) 2 f))
-      by false e false f h = absurd (true-is-not-false h refl)
+  pub three-in-others : is-form (form-field bytes) forms ≡ true → (form ≡ 2 → ⊥) → 3 ≡ form-of bytes .task-bytes
+  unfolding form-of
+  three-in-others known other = three-for-others (form-field bytes) (λ two. other (given ∙ two)) known
 
 -- ---- the bytes of a task
 
+-- form 3 has form 1's tasks
+as-form-3 : {bits : ℕ} {f : TaskFields} → TaskOf form-1 bits f → TaskOf form-3 bits f
+as-form-3 r =
+    record {
+      count-read = r .count-read;
+      first-read = r .first-read;
+      second-read = r .second-read;
+      ticks-read = r .ticks-read;
+    }
+
 module _ (bytes : List ℕ) (t : ℕ) where
-  bits-of-1 : form-of bytes ≡ form-1 →
+  bits-of-three : form-of bytes .task-bytes ≡ 3 →
       task-bits bytes t ≡ three-bytes (getD bytes (5 + 3 * t) 0) (getD bytes (5 + 3 * t + 1) 0) (getD bytes (5 + 3 * t + 2) 0)
   unfolding task-bits number
-  bits-of-1 e = rw (e, add-zero (5 + 3 * t)) (omega arith)
+  bits-of-three e = rw (e, add-zero (5 + 3 * t)) (omega arith)
 
-  bits-of-2 : form-of bytes ≡ form-2 →
+  bits-of-four : form-of bytes .task-bytes ≡ 4 →
       task-bits bytes t
       ≡ four-bytes (getD bytes (5 + 4 * t) 0) (getD bytes (5 + 4 * t + 1) 0) (getD bytes (5 + 4 * t + 2) 0) (getD bytes (5 + 4 * t + 3) 0)
   unfolding task-bits number
-  bits-of-2 e = rw (e, add-zero (5 + 4 * t)) (omega arith)
+  bits-of-four e = rw (e, add-zero (5 + 4 * t)) (omega arith)
 
   -- as the code tells the forms apart, with the bytes of a task
   module _ (known : is-form (form-field bytes) forms ≡ true) (width : ℕ) (its-width : width ≡ form-of bytes .task-bytes) where
@@ -69,28 +79,35 @@ module _ (bytes : List ℕ) (t : ℕ) where
         go : KnownForm bytes → 3 ≤ width
         go (is-1 e) = rw (its-width, e) (omega arith)
         go (is-2 e) = rw (its-width, e) (omega arith)
+        go (is-3 e) = rw (its-width, e) (omega arith)
 
-    pub of-four : width ≡ 4 → (form-of bytes ≡ form-2)
-        × (task-bits bytes t ≡ four-bytes (getD bytes (5 + width * t) 0) (getD bytes (5 + width * t + 1) 0)
-        (getD bytes (5 + width * t + 2) 0) (getD bytes (5 + width * t + 3) 0))
-    of-four four = go (known-form bytes known)
-      where
-        go : KnownForm bytes → (form-of bytes ≡ form-2)
-            × (task-bits bytes t ≡ four-bytes (getD bytes (5 + width * t) 0) (getD bytes (5 + width * t + 1) 0)
-            (getD bytes (5 + width * t + 2) 0) (getD bytes (5 + width * t + 3) 0))
-        go (is-1 e) = let three : width ≡ 3 = rw (its-width, e) in absurd (omega arith)
-        go (is-2 e) = (e, rw four (bits-of-2 e))
+    module _ {f : TaskFields} where
+      pub of-four : width ≡ 4 →
+          TaskOf form-2
+          (four-bytes (getD bytes (5 + width * t) 0) (getD bytes (5 + width * t + 1) 0) (getD bytes (5 + width * t + 2) 0)
+          (getD bytes (5 + width * t + 3) 0)) f →
+          TaskOf (form-of bytes) (task-bits bytes t) f
+      of-four four read = go (known-form bytes known)
+        where
+          go : KnownForm bytes → TaskOf (form-of bytes) (task-bits bytes t) f
+          go (is-1 e) = let three : width ≡ 3 = rw (its-width, e) in absurd (omega arith)
+          go (is-2 e) = rw (bits-of-four (sym its-width ∙ four), e) (rw four at read)
+          go (is-3 e) = let three : width ≡ 3 = rw (its-width, e) in absurd (omega arith)
 
-    pub of-three : (width ≡ 4 → ⊥) → (form-of bytes ≡ form-1)
-        × (task-bits bytes t
-        ≡ three-bytes (getD bytes (5 + width * t) 0) (getD bytes (5 + width * t + 1) 0) (getD bytes (5 + width * t + 2) 0))
-    of-three other = go (known-form bytes known)
-      where
-        go : KnownForm bytes → (form-of bytes ≡ form-1)
-            × (task-bits bytes t
-            ≡ three-bytes (getD bytes (5 + width * t) 0) (getD bytes (5 + width * t + 1) 0) (getD bytes (5 + width * t + 2) 0))
-        go (is-1 e) = let three : width ≡ 3 = rw (its-width, e) in (e, rw three (bits-of-1 e))
-        go (is-2 e) = absurd (other (rw (its-width, e)))
+      pub of-three : (width ≡ 4 → ⊥) →
+          TaskOf form-1
+          (three-bytes (getD bytes (5 + width * t) 0) (getD bytes (5 + width * t + 1) 0) (getD bytes (5 + width * t + 2) 0)) f →
+          TaskOf (form-of bytes) (task-bits bytes t) f
+      of-three other read = go (known-form bytes known)
+        where
+          go : KnownForm bytes → TaskOf (form-of bytes) (task-bits bytes t) f
+          go (is-1 e) =
+              let three : width ≡ 3 = rw (its-width, e) in
+              rw (bits-of-three (sym its-width ∙ three), e) (rw three at read)
+          go (is-2 e) = absurd (other (rw (its-width, e)))
+          go (is-3 e) =
+              let three : width ≡ 3 = rw (its-width, e) in
+              rw (bits-of-three (sym its-width ∙ three), e) (as-form-3 (rw three at read))
 
 -- the bytes of a task are among those of all tasks
 pub task-there : (width t n size : ℕ) → t < n → size ≡ 5 + width * n → 5 + width * t + width ≤ size
@@ -99,18 +116,45 @@ task-there width t n size l e =
     let most : width * suc t ≤ width * n = mul-le-mul (omega arith) l in
     omega arith
 
+-- ---- how large the fields can be
+
+-- what holds of every form and of what is none, holds of the bytes' own
+each-form : (P : Form → Type 0) → P form-1 → P form-2 → P form-3 → P no-form → (bytes : List ℕ) → P (form-of bytes)
+unfolding form-of
+each-form P a b c d bytes = by (which-form (form-field bytes))
+  where
+    by : FormIs (form-field bytes) → P (form-with (form-field bytes) forms)
+    by (is-one e row) = rw row a
+    by (is-two e row) = rw row b
+    by (is-three e row) = rw row c
+    by (is-none e row) = rw row d
+
+pub growth-number-most : (bytes : List ℕ) → growth-field-of (form-of bytes) (header bytes) ≤ 31
+growth-number-most bytes =
+    each-form (λ f. growth-field-of f (header bytes) ≤ 31) (omega arith) (omega arith) (omega arith) (omega arith) bytes
+
+pub growth-most : (bytes : List ℕ) → GrowthMost (growth-field bytes)
+unfolding growth-field
+growth-most bytes =
+    each-form (λ f. GrowthMost (growth-with (f .in-tenths) (growth-field-of f (header bytes)))) (omega arith) (omega arith) (omega arith)
+    (omega arith) bytes
+
+pub utilization-most : (bytes : List ℕ) → utilization-field-of (form-of bytes) (header bytes) ≤ 127
+utilization-most bytes =
+    each-form (λ f. utilization-field-of f (header bytes) ≤ 127) (omega arith) (omega arith) (omega arith) (omega arith) bytes
+
+pub quantum-most : (bytes : List ℕ) → quantum-length-field-of (form-of bytes) (header bytes) ≤ longest-quantum
+quantum-most bytes =
+    each-form (λ f. quantum-length-field-of f (header bytes) ≤ longest-quantum) (omega arith) (omega arith) (omega arith) (omega arith)
+    bytes
+
 -- ---- how long a task lasts
 
 pub duration-most : (bytes : List ℕ) (t : ℕ) → duration-field bytes t ≤ longest-duration
-unfolding duration-field form-of form-with forms
-duration-most bytes t = by (eqb (form-field bytes) 1) (eqb (form-field bytes) 2)
-  where
-    by : (a b : Bool) →
-        (let form : Form = cond a form-1 (cond b form-2 (record { code = 0; task-bytes = 0; duration-bits = 0 })) in
-        cond (eqb (form .duration-bits) 0) 1 (field (form .duration-bits) 0 (task-bits bytes t))) ≤ longest-duration
-    by true b = omega arith
-    by false true = omega arith
-    by false false = omega arith
+unfolding duration-field
+duration-most bytes t =
+    each-form (λ f. cond (eqb (f .duration-bits) 0) 1 (field (f .duration-bits) 0 (task-bits bytes t)) ≤ longest-duration) (omega arith)
+    (omega arith) (omega arith) (omega arith) bytes
 
 module _ (bytes : List ℕ) where
   pub durations-length : length (plan-of bytes .durations) ≡ task-count bytes
@@ -130,16 +174,17 @@ module _ (bytes : List ℕ) where
           let l : t < task-count bytes = rw durations-length at (some-within (plan-of bytes .durations) t (omega arith)) in
           rw (duration-given t l) (duration-most bytes t)
 
--- form 1's tasks last one tick, so that `WorkIsTasks` of model is of them
-pub one-tick-each : (bytes : List ℕ) → form-field bytes ≡ 1 → (t : ℕ) → duration-of (plan-of bytes) t ≤ 1
+-- the tasks of forms 1 and 3 last one tick, so that `WorkIsTasks` of model is of them
+pub one-tick-each : (bytes : List ℕ) → (form-field bytes ≡ 1) ⊎ (form-field bytes ≡ 3) → (t : ℕ) → duration-of (plan-of bytes) t ≤ 1
 unfolding duration-field form-of form-with forms
-one-tick-each bytes one t = go (duration-of (plan-of bytes) t) refl
+one-tick-each bytes which t = go (duration-of (plan-of bytes) t) refl
   where
-    lasts : (x : ℕ) → duration-field bytes x ≡ 1
-    lasts x = rw one
+    lasts : (form-field bytes ≡ 1) ⊎ (form-field bytes ≡ 3) → (x : ℕ) → duration-field bytes x ≡ 1
+    lasts (inl one) x = rw one
+    lasts (inr three) x = rw three
 
     go : (n : ℕ) → duration-of (plan-of bytes) t ≡ n → duration-of (plan-of bytes) t ≤ 1
     go zero e = omega arith
     go (suc n) e =
         let l : t < task-count bytes = rw (durations-length bytes) at (some-within (plan-of bytes .durations) t (omega arith)) in
-        rw (duration-given bytes t l, lasts t) (omega arith)
+        rw (duration-given bytes t l, lasts which t) (omega arith)

@@ -14,7 +14,7 @@ use Rattle.model.specs.Questions.{Answer, accepted, refused, first-no}
 use Rattle.model.specs.Plan.{Graph, tasks, successors-of, predecessors}
 use Rattle.model.specs.Plan.{task-count, count-field, first-field, second-field, successor-fields}
 use Rattle.model.specs.Plan.{plan-of, task-questions, header-questions, graph-questions, all-preceded, one-exit, plan-questions}
-use Rattle.model.specs.Plan.{plan-answer}
+use Rattle.model.specs.Plan.{plan-answer, quantum-length-field}
 use Rattle.model.specs.Statements.{SoundGraph, SoundPlan, WithinBounds}
 use Rattle.plan.specs.Rules.{WellFormed, PlanRules, Leads, nowhere, onward}
 use Rattle.lists.proofs.Tests.{and-left, and-right, both}
@@ -22,7 +22,7 @@ use Rattle.lists.proofs.Lists.{every-at, every-from, below-has, below-is, is-me
 use Rattle.lists.proofs.Ranges.{mem-from-one, from-one-mem, keep-some}
 use Rattle.lists.proofs.Questions.{and-then, first-no-append, first-accepted, second-accepted, ask-accepted, two-accepted, accepted-at}
 use Rattle.lists.proofs.Questions.{accepted-below}
-use Rattle.plan.proofs.Forms.{durations-length, duration-given, durations-most}
+use Rattle.plan.proofs.Forms.{growth-most, quantum-most, durations-length, duration-given, durations-most}
 use Rattle.plan.proofs.Facts.{tasks-of, successors-given, HeaderFacts, header-facts, header-accepted, TargetFacts, TaskFacts}
 use Rattle.plan.proofs.Facts.{task-facts, task-accepted, used-most, same-targets}
 
@@ -220,12 +220,12 @@ module _ (bytes : List ℕ) where
 -- ---- what the field widths bound, of any bytes
 
 pub within-bounds : (bytes : List ℕ) → WithinBounds (plan-of bytes)
-unfolding plan-of
+unfolding plan-of quantum-length-field
 within-bounds bytes =
     record {
       tasks-most = rw (tasks-of bytes) (omega arith);
-      quantum-most = omega arith;
-      responsiveness-most = omega arith;
+      quantum-most = quantum-most bytes;
+      growth-most = growth-most bytes;
       durations-most = durations-most bytes;
     }
 

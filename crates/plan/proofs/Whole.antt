@@ -12,7 +12,8 @@ use lib.ListN.{length, getD, set, drop, replicate, length-set, length-replicate}
 use lib.Seq.{getD-set-same, getD-set-other, ext-getD}
 use Rattle.model.specs.Tests.{below, every, keep, is-empty, member}
 use Rattle.model.specs.Questions.{first-no}
-use Rattle.model.specs.Plan.{tasks, successors-of, predecessors, responsiveness-field, utilization-field, quantum-length-field, task-count}
+use Rattle.model.specs.Plan.{tasks, successors-of, predecessors, form-of, header, growth-field, utilization-field, task-count}
+use Rattle.model.specs.Plan.{quantum-length-field, growth-field-of, utilization-field-of, quantum-length-field-of}
 use Rattle.model.specs.Plan.{count-field, first-field, second-field, used-fields, successor-fields, plan-of, task-questions, all-preceded}
 use Rattle.model.specs.Plan.{one-exit, duration-field}
 use Rattle.lists.proofs.Lists.{alike, below-is, is-member}
@@ -172,12 +173,13 @@ module _ (bytes : List ℕ) (p : Parts) (held : Held bytes (task-count bytes) p)
   -- ---- the memory
 
   pub memory-holds : (r : Heading) (memory : List ℕ) → parts memory ≡ with-pending p (set (p .pending) 0 0) →
-      r .responsiveness ≡ responsiveness-field bytes → r .utilization ≡ utilization-field bytes →
-      r .«quantum_length» ≡ quantum-length-field bytes → r .tasks ≡ task-count bytes → Holds bytes r memory
-  unfolding plan-view plan-of
-  memory-holds r memory e e-r e-u e-q e-n =
+      r .«in_tenths» ≡ form-of bytes .in-tenths → r .responsiveness ≡ growth-field-of (form-of bytes) (header bytes) →
+      r .utilization ≡ utilization-field-of (form-of bytes) (header bytes) →
+      r .«quantum_length» ≡ quantum-length-field-of (form-of bytes) (header bytes) → r .tasks ≡ task-count bytes → Holds bytes r memory
+  unfolding plan-view plan-of growth-field utilization-field quantum-length-field
+  memory-holds r memory e e-t e-r e-u e-q e-n =
       record {
-        shows = rw (e, e-r, e-u, e-q, e-n, successors-are, durations-are);
+        shows = rw (e, e-t, e-r, e-u, e-q, e-n, successors-are, durations-are);
         untouched = rw (e, e-n) left-are;
         preceded = λ t l. rw e (counts-are t);
         first-ends = rw (e, e-n) (held .first-ends);

@@ -21,7 +21,7 @@ use Rattle.plan.specs.Promise.{Holds, no-heading}
 
 -- the header is read and accepted
 pub record HeaderRead (bytes : List ℕ) (h : Header) : Type 0 where
-  pub fields : HeaderOf (header bytes) h
+  pub fields : HeaderOf (form-of bytes) (header bytes) h
   pub passed : first-no (header-questions bytes) ≡ accepted
 
 -- ---- the memory while the tasks are read

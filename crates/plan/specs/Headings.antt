@@ -3,7 +3,7 @@ use mathlib.Core.Path.{_≡_}
 use mathlib.Core.List.{List}
 use Prim.Native.Nat.{ℕ, _≤_}
 use lib.ListN.{length, getD}
-use Rattle.model.specs.Plan.{Plan}
+use Rattle.model.specs.Plan.{Plan, growth-with}
 use Rattle.memory.specs.Parts.{Parts}
 use Rattle.memory.specs.Graphs.{graph, durations-view}
 use Rattle.plan.specs.declared.Heading.{Heading}
@@ -11,7 +11,12 @@ use Rattle.plan.specs.declared.Heading.{Heading}
 unfoldable pub plan-view : Heading → Parts → Plan
 plan-view r p =
     record {
-      terms = record { responsiveness = r .responsiveness; utilization = r .utilization; quantum-length = r .«quantum_length» };
+      terms =
+          record {
+            growth = growth-with (r .«in_tenths») (r .responsiveness);
+            utilization = r .utilization;
+            quantum-length = r .«quantum_length»;
+          };
       graph = graph p (r .tasks);
       durations = durations-view (p .spans) (r .tasks);
     }

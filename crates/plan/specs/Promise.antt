@@ -1,5 +1,6 @@
 -- What plan reading promises of any bytes.
 use mathlib.Core.Path.{_≡_}
+use mathlib.Core.Bool.{false}
 use mathlib.Core.List.{List}
 use Prim.Native.Nat.{ℕ, _<_}
 use lib.ListN.{length, getD, replicate}
@@ -27,7 +28,8 @@ pub record Holds (bytes : List ℕ) (r : Heading) (memory : List ℕ) : Type 0 w
 
 -- what stands beside a refusal
 abbrev pub no-heading : PlanAnswer → Heading
-no-heading answer = record { answer = answer; responsiveness = 0; utilization = 0; «quantum_length» = 0; tasks = 0 }
+no-heading answer =
+    record { answer = answer; «in_tenths» = false; responsiveness = 0; utilization = 0; «quantum_length» = 0; tasks = 0 }
 
 -- the answer is the first "no"; where there is none, the heading and the memory hold the plan; a refusal leaves zeros in the heading, and
 -- the memory as it came. With a prime: after the call.

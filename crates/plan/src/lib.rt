@@ -14,9 +14,10 @@ ghost use Rattle.plan.specs.Contracts.{noted, FieldsDue, Due, TaskRead, 
 ghost use Rattle.plan.specs.Contracts.{no-memory};
 ghost use Rattle.plan.specs.Promise.{no-heading, RightHeading};
 
-// The answer, and the plan's numbers where it is Accepted; zeros beside a refusal.
+// The answer, and the plan's numbers where it is Accepted; zeros beside a refusal. R is in tenths or not.
 pub struct Heading {
     pub answer: PlanAnswer,
+    pub in_tenths: bool,
     pub responsiveness: u8,
     pub utilization: u8,
     pub quantum_length: u16,
@@ -38,7 +39,7 @@ fn fields_of(bytes: &[u8], t: usize, width: usize) -> TaskFields
     ensures { λ r. ⌜ TaskOf (form-of (now (bytes .entry))) (task-bits (now (bytes .entry)) t) r ⌝ }
 {
     let at = 5 + width * t;
-    if width == 4 {
+    if width == plan_fields::LASTING_TASK_BYTES {
         return plan_fields::lasting_of(bytes[at], bytes[at + 1], bytes[at + 2], bytes[at + 3]);
     }
     plan_fields::task_of(bytes[at], bytes[at + 1], bytes[at + 2])
@@ -81,15 +82,15 @@ fn read_tasks(bytes: &[u8], n: usize, width: usize, memory: &mut Memory) -> Plan
     PlanAnswer::Accepted
 }
 
-// Reads all n tasks of a plan of this form. The loop is told the bytes of a task, so that each form has one of its own.
+// Reads all n tasks of a plan of this form. The loop is told the bytes of a task, so that there is one for each number of them.
 fn read_form(bytes: &[u8], form: usize, n: usize, memory: &mut Memory) -> PlanAnswer
     requires { ⌜ form ≡ form-field (now bytes) ⌝ ∗ ⌜ Due (now bytes) n 0 (parts (now memory)) ⌝ }
     ensures { λ r. ⌜ TasksRead (now (bytes .entry)) n r (parts-after memory) ⌝ }
 {
-    if form == 2 {
-        return read_tasks(bytes, n, 4, memory);
+    if form == plan_fields::FORM_2 {
+        return read_tasks(bytes, n, plan_fields::LASTING_TASK_BYTES, memory);
     }
-    read_tasks(bytes, n, 3, memory)
+    read_tasks(bytes, n, plan_fields::TASK_BYTES, memory)
 }
 
 // Question 9 over the counts: each of the tasks from 1 up has one or two predecessors.
@@ -127,6 +128,7 @@ fn refusal(answer: PlanAnswer) -> Heading
 {
     Heading {
         answer,
+        in_tenths: false,
         responsiveness: 0,
         utilization: 0,
         quantum_length: 0,
@@ -156,6 +158,7 @@ fn read_graph(bytes: &[u8], h: Header, memory: &mut Memory) -> Heading
     memory[memory::PENDING] = 0;
     Heading {
         answer: PlanAnswer::Accepted,
+        in_tenths: h.in_tenths,
         responsiveness: h.responsiveness as u8,
         utilization: h.utilization as u8,
         quantum_length: h.quantum as u16,

@@ -1,6 +1,6 @@
 // Runs the paper's plan examples, and others that tell the questions apart, and prints what reading found: the answer's number and, for
-// an accepted plan, R, D, L, N and of the first four tasks, or the only one, the two fields, how many predecessors it has, its ticks and
-// the ticks that it has left.
+// an accepted plan, R, as a whole number or in tenths, D, L, N and of the first four tasks, or the only one, the two fields, how many
+// predecessors it has, its ticks and the ticks that it has left.
 use memory::Memory;
 
 fn digit(n: u16) {
@@ -60,6 +60,9 @@ fn show(name: &[u8], bytes: &[u8]) {
     put_after(b": ", plan_fields::number(answer) as u16);
     if plan_fields::passed(answer) {
         put_after(b" R ", heading.responsiveness as u16);
+        if heading.in_tenths {
+            io::write_all(1, b" tenths");
+        }
         put_after(b" D ", heading.utilization as u16);
         put_after(b" L ", heading.quantum_length);
         put_after(b" N ", heading.tasks);
@@ -110,8 +113,8 @@ fn header_rows() {
         b"\x05\x40\x00\x08\x03\x80\x08\x02\x40\x18\x00\x40\x18\x00\x00\x00\x00",
     );
     show(
-        b"form 3",
-        b"\x35\x40\x00\x08\x03\x80\x08\x02\x40\x18\x00\x40\x18\x00\x00\x00\x00",
+        b"form 4",
+        b"\x45\x40\x00\x08\x03\x80\x08\x02\x40\x18\x00\x40\x18\x00\x00\x00\x00",
     );
     show(
         b"D = 0",
@@ -124,6 +127,38 @@ fn header_rows() {
     show(
         b"L = 65535",
         b"\x15\x43\xff\xfc\x03\x80\x08\x02\x40\x18\x00\x40\x18\x00\x00\x00\x00",
+    );
+}
+
+// Form 3: R in tenths.
+fn gentle_rows() {
+    show(
+        b"form 3 with 12 tenths",
+        b"\x36\x50\x00\x08\x03\x80\x08\x02\x40\x18\x00\x40\x18\x00\x00\x00\x00",
+    );
+    show(
+        b"form 3 with 20 tenths, D = 100, L = 16383",
+        b"\x3a\x64\xff\xfc\x03\x80\x08\x02\x40\x18\x00\x40\x18\x00\x00\x00\x00",
+    );
+    show(
+        b"11 tenths",
+        b"\x35\xd0\x00\x08\x03\x80\x08\x02\x40\x18\x00\x40\x18\x00\x00\x00\x00",
+    );
+    show(
+        b"21 tenths",
+        b"\x3a\xd0\x00\x08\x03\x80\x08\x02\x40\x18\x00\x40\x18\x00\x00\x00\x00",
+    );
+    show(
+        b"form 3, D = 101",
+        b"\x37\xe5\x00\x08\x03\x80\x08\x02\x40\x18\x00\x40\x18\x00\x00\x00\x00",
+    );
+    show(
+        b"form 3, L = 0",
+        b"\x37\xd0\x00\x00\x03\x80\x08\x02\x40\x18\x00\x40\x18\x00\x00\x00\x00",
+    );
+    show(
+        b"form 3 with the bytes of form 2",
+        b"\x37\xd0\x00\x08\x03\x80\x08\x02\x01\x40\x18\x00\x01\x40\x18\x00\x01\x00\x00\x00\x01",
     );
 }
 
@@ -210,6 +245,7 @@ fn lasting_rows() {
 fn main() {
     document_rows();
     header_rows();
+    gentle_rows();
     task_rows();
     graph_rows();
     lasting_rows();

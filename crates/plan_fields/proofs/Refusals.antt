@@ -9,83 +9,52 @@ use mir.Val.{boolByte}
 use lib.Dec.{leb, ltb, eqb}
 use Rattle.model.specs.Tests.{every}
 use Rattle.model.specs.Questions.{Answer, accepted, refused, ask, first-no}
-use Rattle.model.specs.Plan.{forms, is-form, form-with, used-fields, fields-ok, two-differ, targets-ok}
+use Rattle.model.specs.Plan.{Growth, growth-ok, forms, is-form, form-with, used-fields, fields-ok, two-differ, targets-ok}
 use Rattle.plan_fields.specs.Answers.{passes}
 use Rattle.plan_fields.specs.declared.TaskFields.{TaskFields}
-use Rattle.plan_fields.specs.Fields.{form-1, form-2, field-questions, pair-questions, asked-of-task}
+use Rattle.plan_fields.specs.Fields.{field-questions, pair-questions, asked-of-task}
 use Rattle.lists.proofs.Tests.{true-is-not-false, and-right}
 use Rattle.lists.proofs.Questions.{and-then, first-no-append}
 use Rattle.plan_fields.proofs.Answers.{passes-is, stops}
 
--- ---- the plan forms
-
-pub forms-known : (form : ℕ) → (eqb form 1 || eqb form 2) ≡ is-form form forms
-unfolding is-form forms
-forms-known form = by (eqb form 1) (eqb form 2)
-  where
-    by : (a b : Bool) → (a || b) ≡ cond a true (cond b true false)
-    by true b = refl
-    by false true = refl
-    by false false = refl
-
-module _ (form : ℕ) where
-  pub three-for-1 : form ≡ 1 → 3 ≡ form-with form forms .task-bytes
-  unfolding form-with forms
-  three-for-1 e = rw e
-
-  pub four-for-2 : form ≡ 2 → 4 ≡ form-with form forms .task-bytes
-  unfolding form-with forms
-  four-for-2 e = rw e
-
-  pub none-for-others : (form ≡ 1 → ⊥) → (form ≡ 2 → ⊥) → 0 ≡ form-with form forms .task-bytes
-  unfolding form-with forms
-  none-for-others a b = rw (ne-eqb form 1 a, ne-eqb form 2 b)
-
-  pub few-bytes : form-with form forms .task-bytes ≤ 4
-  unfolding form-with forms
-  few-bytes = by (eqb form 1) (eqb form 2)
-    where
-      by : (a b : Bool) → cond a form-1 (cond b form-2 (record { code = 0; task-bytes = 0; duration-bits = 0 })) .task-bytes ≤ 4
-      by true b = omega arith
-      by false true = omega arith
-      by false false = omega arith
-
 -- ---- questions 2 to 6
 
-module _ (form r d q n size : ℕ) where
+module _ (form : ℕ) (g : Growth) (d q n size : ℕ) where
   -- so many bytes has a plan of the form with n tasks
   abbrev whole : ℕ
   whole = 5 + form-with form forms .task-bytes * n
 
-  pub no-2 : is-form form forms ≡ false → refused 2 ≡ first-no (field-questions form r d q n size)
+  pub no-2 : is-form form forms ≡ false → refused 2 ≡ first-no (field-questions form g d q n size)
   unfolding field-questions first-no
   no-2 a = rw a
 
-  pub no-3 : is-form form forms ≡ true → r < 2 → refused 3 ≡ first-no (field-questions form r d q n size)
+  pub no-3 : is-form form forms ≡ true → growth-ok g ≡ false → refused 3 ≡ first-no (field-questions form g d q n size)
   unfolding field-questions first-no
-  no-3 a b = rw (a, lt-leb 2 r b)
+  no-3 a b = rw (a, b)
 
-  pub no-4-low : is-form form forms ≡ true → 2 ≤ r → d < 1 → refused 4 ≡ first-no (field-questions form r d q n size)
+  pub no-4-low : is-form form forms ≡ true → growth-ok g ≡ true → d < 1 → refused 4 ≡ first-no (field-questions form g d q n size)
   unfolding field-questions first-no
-  no-4-low a b c = rw (a, le-leb 2 r b, lt-leb 1 d c)
+  no-4-low a b c = rw (a, b, lt-leb 1 d c)
 
-  pub no-4-high : is-form form forms ≡ true → 2 ≤ r → 1 ≤ d → 100 < d → refused 4 ≡ first-no (field-questions form r d q n size)
+  pub no-4-high : is-form form forms ≡ true → growth-ok g ≡ true → 1 ≤ d → 100 < d →
+      refused 4 ≡ first-no (field-questions form g d q n size)
   unfolding field-questions first-no
-  no-4-high a b c e = rw (a, le-leb 2 r b, le-leb 1 d c, lt-leb d 100 e)
+  no-4-high a b c e = rw (a, b, le-leb 1 d c, lt-leb d 100 e)
 
-  pub no-5 : is-form form forms ≡ true → 2 ≤ r → 1 ≤ d → d ≤ 100 → q < 1 → refused 5 ≡ first-no (field-questions form r d q n size)
+  pub no-5 : is-form form forms ≡ true → growth-ok g ≡ true → 1 ≤ d → d ≤ 100 → q < 1 →
+      refused 5 ≡ first-no (field-questions form g d q n size)
   unfolding field-questions first-no
-  no-5 a b c e f = rw (a, le-leb 2 r b, le-leb 1 d c, le-leb d 100 e, lt-leb 1 q f)
+  no-5 a b c e f = rw (a, b, le-leb 1 d c, le-leb d 100 e, lt-leb 1 q f)
 
-  pub no-6 : is-form form forms ≡ true → 2 ≤ r → 1 ≤ d → d ≤ 100 → 1 ≤ q → (size ≡ whole → ⊥) →
-      refused 6 ≡ first-no (field-questions form r d q n size)
+  pub no-6 : is-form form forms ≡ true → growth-ok g ≡ true → 1 ≤ d → d ≤ 100 → 1 ≤ q → (size ≡ whole → ⊥) →
+      refused 6 ≡ first-no (field-questions form g d q n size)
   unfolding field-questions first-no
-  no-6 a b c e f g = rw (a, le-leb 2 r b, le-leb 1 d c, le-leb d 100 e, le-leb 1 q f, ne-eqb size whole g)
+  no-6 a b c e f g = rw (a, b, le-leb 1 d c, le-leb d 100 e, le-leb 1 q f, ne-eqb size whole g)
 
-  pub yes-to-6 : is-form form forms ≡ true → 2 ≤ r → 1 ≤ d → d ≤ 100 → 1 ≤ q → size ≡ whole →
-      accepted ≡ first-no (field-questions form r d q n size)
+  pub yes-to-6 : is-form form forms ≡ true → growth-ok g ≡ true → 1 ≤ d → d ≤ 100 → 1 ≤ q → size ≡ whole →
+      accepted ≡ first-no (field-questions form g d q n size)
   unfolding field-questions first-no
-  yes-to-6 a b c e f g = rw (a, le-leb 2 r b, le-leb 1 d c, le-leb d 100 e, le-leb 1 q f, eq-eqb size whole g)
+  yes-to-6 a b c e f g = rw (a, b, le-leb 1 d c, le-leb d 100 e, le-leb 1 q f, eq-eqb size whole g)
 
 -- ---- questions 7 and 8
 

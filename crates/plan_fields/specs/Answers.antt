@@ -2,7 +2,7 @@
 use mathlib.Core.Bool.{Bool, true, false}
 use Rattle.model.specs.Questions.{Answer, accepted, refused}
 use Rattle.plan_fields.specs.declared.PlanAnswer.{PlanAnswer}
-use Rattle.plan_fields.specs.declared.PlanAnswer.the-variants.{Accepted, Short, UnknownForm, LowResponsiveness, BadUtilization}
+use Rattle.plan_fields.specs.declared.PlanAnswer.the-variants.{Accepted, Short, UnknownForm, BadResponsiveness, BadUtilization}
 use Rattle.plan_fields.specs.declared.PlanAnswer.the-variants.{NoQuantum, WrongLength, BadFields, BadSuccessors, BadPredecessors}
 use Rattle.plan_fields.specs.declared.PlanAnswer.the-variants.{LooseEnd, NoTicks}
 
@@ -10,7 +10,7 @@ abbrev pub answer-of : PlanAnswer → Answer
 answer-of Accepted = accepted
 answer-of Short = refused 1
 answer-of UnknownForm = refused 2
-answer-of LowResponsiveness = refused 3
+answer-of BadResponsiveness = refused 3
 answer-of BadUtilization = refused 4
 answer-of NoQuantum = refused 5
 answer-of WrongLength = refused 6

@@ -5,18 +5,20 @@ use mathlib.Core.List.{List, [], _∷_, _++_}
 use Prim.Native.Nat.{ℕ, _+_, _*_}
 use lib.Dec.{leb, eqb}
 use Rattle.model.specs.Questions.{Question, ask}
-use Rattle.model.specs.Plan.{Form, forms, is-form, form-with, field, used-fields, fields-ok, targets-ok}
+use Rattle.model.specs.Plan.{Growth, Form, forms, is-form, form-with, field, growth-field-of, utilization-field-of}
+use Rattle.model.specs.Plan.{quantum-length-field-of, growth-ok, used-fields, fields-ok, targets-ok}
 use Rattle.plan_fields.specs.declared.Header.{Header}
 use Rattle.plan_fields.specs.declared.TaskFields.{TaskFields}
 
 -- ---- the fields
 
--- the fields of five bytes as one number
-pub record HeaderOf (bits : ℕ) (h : Header) : Type 0 where
+-- the fields of five bytes as one number, as they are in some form
+pub record HeaderOf (form : Form) (bits : ℕ) (h : Header) : Type 0 where
   pub form-read : h .form ≡ field 4 36 bits
-  pub responsiveness-read : h .responsiveness ≡ field 3 33 bits
-  pub utilization-read : h .utilization ≡ field 7 26 bits
-  pub quantum-read : h .quantum ≡ field 16 10 bits
+  pub tenths-read : h .«in_tenths» ≡ form .in-tenths
+  pub responsiveness-read : h .responsiveness ≡ growth-field-of form bits
+  pub utilization-read : h .utilization ≡ utilization-field-of form bits
+  pub quantum-read : h .quantum ≡ quantum-length-field-of form bits
   pub tasks-read : h .tasks ≡ field 10 0 bits + 1
 
 abbrev pub five-bytes : ℕ → ℕ → ℕ → ℕ → ℕ → ℕ
@@ -29,13 +31,6 @@ pub record TaskOf (form : Form) (bits : ℕ) (f : TaskFields) : Type 0 where
   pub second-read : f .second ≡ field 11 (form .duration-bits) bits
   pub ticks-read : f .ticks ≡ cond (eqb (form .duration-bits) 0) 1 (field (form .duration-bits) 0 bits)
 
--- the rows of form 1 and form 2
-abbrev pub form-1 : Form
-form-1 = record { code = 1; task-bytes = 3; duration-bits = 0 }
-
-abbrev pub form-2 : Form
-form-2 = record { code = 2; task-bytes = 4; duration-bits = 8 }
-
 abbrev pub three-bytes : ℕ → ℕ → ℕ → ℕ
 three-bytes a b c = (a * 256 + b) * 256 + c
 
@@ -45,10 +40,10 @@ four-bytes a b c d = three-bytes a b c * 256 + d
 -- ---- the questions of fields that were read
 
 -- 2 to 6
-unfoldable pub field-questions : ℕ → ℕ → ℕ → ℕ → ℕ → ℕ → List Question
-field-questions form responsiveness utilization quantum tasks size =
+unfoldable pub field-questions : ℕ → Growth → ℕ → ℕ → ℕ → ℕ → List Question
+field-questions form growth utilization quantum tasks size =
     ask (is-form form forms) 2
-    ∷ ask (leb 2 responsiveness) 3
+    ∷ ask (growth-ok growth) 3
     ∷ ask (leb 1 utilization && leb utilization 100) 4
     ∷ ask (leb 1 quantum) 5
     ∷ ask (eqb size (5 + form-with form forms .task-bytes * tasks)) 6

@@ -1,12 +1,12 @@
 // The fields of a plan's header and of a task, taken from their bytes, and the questions that are asked of them: 2 to 8, and 28.
 ghost use mathlib.Core.Path.{_≡_};
 ghost use mathlib.Core.Bool.{cond, _&&_};
-ghost use Prim.Native.Nat.{_≤_};
+ghost use Prim.Native.Nat.{_+_, _*_, _%_, _≤_};
 ghost use lib.Dec.{leb, eqb};
 ghost use Rattle.model.specs.Questions.{first-no, answer-number};
-ghost use Rattle.model.specs.Plan.{forms, is-form, form-with};
+ghost use Rattle.model.specs.Plan.{form-1, form-2, form-3, forms, is-form, form-with, growth-with, growth-ok, field};
 ghost use Rattle.plan_fields.specs.Answers.{answer-of, passes};
-ghost use Rattle.plan_fields.specs.Fields.{HeaderOf, five-bytes, TaskOf, form-1, three-bytes, form-2, four-bytes};
+ghost use Rattle.plan_fields.specs.Fields.{HeaderOf, five-bytes, TaskOf, three-bytes, four-bytes};
 ghost use Rattle.plan_fields.specs.Fields.{field-questions, pair-questions, asked-of-task};
 
 // One case for each number of the paper, which answer-of gives.
@@ -14,7 +14,7 @@ pub enum PlanAnswer {
     Accepted,
     Short,
     UnknownForm,
-    LowResponsiveness,
+    BadResponsiveness,
     BadUtilization,
     NoQuantum,
     WrongLength,
@@ -25,9 +25,21 @@ pub enum PlanAnswer {
     NoTicks,
 }
 
-// The header's fields, with the number of tasks itself and not one less.
+// The plan forms' numbers, and the bytes of a task in form 2 and in the others.
+pub const FORM_1: usize = 1;
+
+pub const FORM_2: usize = 2;
+
+pub const FORM_3: usize = 3;
+
+pub const TASK_BYTES: usize = 3;
+
+pub const LASTING_TASK_BYTES: usize = 4;
+
+// The header's fields, with the number of tasks itself and not one less; and whether R is in tenths.
 pub struct Header {
     pub form: usize,
+    pub in_tenths: bool,
     pub responsiveness: usize,
     pub utilization: usize,
     pub quantum: usize,
@@ -50,7 +62,7 @@ pub fn number(answer: PlanAnswer) -> u8
         PlanAnswer::Accepted => 0,
         PlanAnswer::Short => 1,
         PlanAnswer::UnknownForm => 2,
-        PlanAnswer::LowResponsiveness => 3,
+        PlanAnswer::BadResponsiveness => 3,
         PlanAnswer::BadUtilization => 4,
         PlanAnswer::NoQuantum => 5,
         PlanAnswer::WrongLength => 6,
@@ -73,51 +85,95 @@ pub fn passed(answer: PlanAnswer) -> bool
     }
 }
 
-// The header's five bytes taken apart.
-pub fn header_of(a: u8, b: u8, c: u8, d: u8, e: u8) -> Header
-    ensures { λ r. ⌜ HeaderOf (five-bytes a b c d e) r ⌝ }
+// The number of tasks: "N less one" stands in the last ten bits of every header.
+fn task_count(d: u8, e: u8) -> usize
+    ensures { λ r. ⌜ r ≡ d % 4 * 256 + e + 1 ⌝ }
+{
+    (d as usize) % 4 * 256 + (e as usize) + 1
+}
+
+// The header's five bytes taken apart, as they are in forms 1 and 2.
+fn plain_header(a: u8, b: u8, c: u8, d: u8, e: u8) -> Header
+    ensures { λ r. ⌜ HeaderOf form-1 (five-bytes a b c d e) r ⌝ }
 {
     Header {
         form: (a / 16) as usize,
+        in_tenths: false,
         responsiveness: (a / 2 % 8) as usize,
         utilization: (a as usize) % 2 * 64 + (b as usize) / 4,
         quantum: (b as usize) % 4 * 16384 + (c as usize) * 64 + (d as usize) / 4,
-        tasks: (d as usize) % 4 * 256 + (e as usize) + 1,
+        tasks: task_count(d, e),
     }
+}
+
+// The same as they are in form 3.
+fn gentle_header(a: u8, b: u8, c: u8, d: u8, e: u8) -> Header
+    ensures { λ r. ⌜ HeaderOf form-3 (five-bytes a b c d e) r ⌝ }
+{
+    Header {
+        form: (a / 16) as usize,
+        in_tenths: true,
+        responsiveness: (a as usize) % 16 * 2 + (b as usize) / 128,
+        utilization: (b % 128) as usize,
+        quantum: (c as usize) * 64 + (d as usize) / 4,
+        tasks: task_count(d, e),
+    }
+}
+
+// The header's five bytes taken apart, as they are in the form that the first of them names.
+pub fn header_of(a: u8, b: u8, c: u8, d: u8, e: u8) -> Header
+    ensures { λ r. ⌜ HeaderOf (form-with (field 4 36 (five-bytes a b c d e)) forms) (five-bytes a b c d e) r ⌝ }
+{
+    let form = (a / 16) as usize;
+    if form == FORM_3 {
+        return gentle_header(a, b, c, d, e);
+    }
+    plain_header(a, b, c, d, e)
 }
 
 // Is there a plan form of this number?
 fn known_form(form: usize) -> bool
     ensures { λ r. ⌜ r ≡ is-form form forms ⌝ }
 {
-    (form == 1) | (form == 2)
+    (form == FORM_1) | (form == FORM_2) | (form == FORM_3)
 }
 
 // The bytes of a task of this plan form; 0 where there is none of the number.
 fn task_bytes(form: usize) -> usize
     ensures { λ r. ⌜ r ≡ form-with form forms .task-bytes ⌝ }
 {
-    if form == 1 {
-        return 3;
+    if form == FORM_2 {
+        return LASTING_TASK_BYTES;
     }
-    if form == 2 {
-        return 4;
+    if known_form(form) {
+        return TASK_BYTES;
     }
     0
+}
+
+// Question 3: is R at least 2, or in tenths from 12 to 20?
+fn growth_ok(in_tenths: bool, responsiveness: usize) -> bool
+    ensures { λ r. ⌜ r ≡ growth-ok (growth-with in_tenths responsiveness) ⌝ }
+{
+    if in_tenths {
+        return (responsiveness >= 12) & (responsiveness <= 20);
+    }
+    responsiveness >= 2
 }
 
 // Questions 2 to 6.
 pub fn header_answer(h: Header, size: usize) -> PlanAnswer
     requires { ⌜ h .tasks ≤ 1024 ⌝ }
     ensures { λ r. ⌜ answer-of r ≡
-        first-no (field-questions (h .form) (h .responsiveness) (h .utilization) (h .quantum) (h .tasks) size) ⌝ }
+        first-no (field-questions (h .form) (growth-with (h .in_tenths) (h .responsiveness)) (h .utilization) (h .quantum) (h .tasks)
+        size) ⌝ }
 {
     let whole = 5 + task_bytes(h.form) * h.tasks;
     if !known_form(h.form) {
         return PlanAnswer::UnknownForm;
     }
-    if h.responsiveness < 2 {
-        return PlanAnswer::LowResponsiveness;
+    if !growth_ok(h.in_tenths, h.responsiveness) {
+        return PlanAnswer::BadResponsiveness;
     }
     if h.utilization < 1 {
         return PlanAnswer::BadUtilization;
@@ -134,7 +190,7 @@ pub fn header_answer(h: Header, size: usize) -> PlanAnswer
     PlanAnswer::Accepted
 }
 
-// The bytes of a task of form 1 taken apart: it lasts one tick.
+// The bytes of a task of form 1 or 3 taken apart: it lasts one tick.
 pub fn task_of(a: u8, b: u8, c: u8) -> TaskFields
     ensures { λ r. ⌜ TaskOf form-1 (three-bytes a b c) r ⌝ }
 {

@@ -1,5 +1,5 @@
 -- `clock::open_quantum` meets its contract: a count above 0 starts the job, and a grant of 0 leaves it as it was.
--- The needs that are only searched for are places below 18.
+-- The needs that are only searched for are places below 20.
 -- Assumes nothing.
 use mathlib.Core.Path.{_≡_, refl, subst, _∙_}
 use mathlib.Core.List.{List}

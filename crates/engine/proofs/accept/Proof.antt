@@ -14,7 +14,7 @@ returns c =
 
 returns-2 : tie.Need-returns-2
 returns-2 c =
-    let passing = c .before .before .before .before .before in
+    let passing = c .before .before .before .before .before .before in
     let right = passing .before .before .read-into .ensures in
     (right .answered, accepts _ right (sym (passing .before .passed .ensures) ∙ not-false _ (passing .if1 .left)))
 
@@ -22,4 +22,4 @@ pub accept-spec : {M : Type 1} → statement M
 accept-spec =
     tie.close
     (tie.spec (λ c κs. search needs) (λ c κs. search needs) returns (λ c. search needs) (λ c. search needs) (λ c. search needs)
-    (λ c. search needs) returns-2)
+    (λ c. search needs) (λ c. search needs) returns-2)

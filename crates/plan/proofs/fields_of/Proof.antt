@@ -14,8 +14,7 @@ returns : tie.Need-returns
 returns c =
     let four = c .before .before .before .before .before in
     let s = four .before .before in
-    let form = of-four (now (s .args .bytes)) (s .args .t) (s .pre .known) _ (s .pre .its-width) (four .if1 .taken) in
-    rw (form .0, form .1) (c .lasting-of .ensures)
+    of-four (now (s .args .bytes)) (s .args .t) (s .pre .known) _ (s .pre .its-width) (four .if1 .taken) (c .lasting-of .ensures)
 
 shared-slice-read-task-of : tie.Need-shared-slice-read-task-of
 shared-slice-read-task-of c = let s = c .before .before .before in omega (arith, three s, s .pre .there)
@@ -30,8 +29,7 @@ returns-2 : tie.Need-returns-2
 returns-2 c =
     let other = c .before .before .before .before in
     let s = other .before .before in
-    let form = of-three (now (s .args .bytes)) (s .args .t) (s .pre .known) _ (s .pre .its-width) (other .if1 .left) in
-    rw (form .0, form .1) (c .task-of .ensures)
+    of-three (now (s .args .bytes)) (s .args .t) (s .pre .known) _ (s .pre .its-width) (other .if1 .left) (c .task-of .ensures)
 
 pub fields-of-spec : {M : Type 1} → statement M
 fields-of-spec =

@@ -1,5 +1,5 @@
 -- `plan::read_form` meets its contract: the bytes of a task are those of the plan's form.
-use Rattle.plan.proofs.Forms.{four-in-2, three-in-1}
+use Rattle.plan.proofs.Forms.{four-in-2, three-in-others}
 use Rattle.plan.proofs.read_form.Statement.{statement}
 use Rattle.plan.proofs.read_form.Tie as tie
 
@@ -16,7 +16,7 @@ read-tasks-requires-2 : tie.Need-read-tasks-requires-2
 read-tasks-requires-2 c κs =
     let other = c .before in
     let s = other .before .before in
-    (three-in-1 _ (s .pre .0) (s .pre .1 .known) (other .if1 .left), s .pre .1)
+    (three-in-others _ (s .pre .0) (s .pre .1 .known) (other .if1 .left), s .pre .1)
 
 returns-2 : tie.Need-returns-2
 returns-2 c = c .read-tasks2 .ensures

@@ -3,8 +3,11 @@ use borrow.Author.Needs.{needs}
 use borrow.Author.Tests.{not-true, not-false}
 use mathlib.Core.Path.{_≡_, refl, sym, _∙_}
 use mathlib.Core.Bool.{true}
+use native.Mathlib.Omega.{arith}
+use denote.Ref.{now}
 use Rattle.plan_fields.specs.Answers.{answer-of, passes}
 use Rattle.plan.proofs.Answered.{right-refusal, first-due, tasks-refused, refused-9, refused-10, accepted-whole}
+use Rattle.plan.proofs.Forms.{growth-number-most, utilization-most, quantum-most}
 use Rattle.plan.proofs.read_graph.Statement.{statement}
 use Rattle.plan.proofs.read_graph.Tie as tie
 
@@ -59,11 +62,30 @@ returns-4 c =
     accepted-whole _ _ (start p .pre .0) _ _ (p .before .read-form .ensures) (holds-8 e)
     (sym (a .all-preceded .ensures) ∙ not-false _ (n .if2 .left))
     (sym (o .one-exit .ensures) ∙ not-false _ (t .if3 .left))
-    _ refl refl refl refl refl
+    _ refl refl refl refl refl refl
+
+-- the header's fields fit
+abbrev entry : tie.Else3 → tie.Start
+entry c = start (c .before .before .before .before .before .before .before)
+
+cast-t18 : tie.Need-cast-t18
+cast-t18 c =
+    let s = entry (c .before) in
+    omega (arith, s .pre .0 .fields .responsiveness-read, growth-number-most (now (s .args .bytes)))
+
+cast-t19 : tie.Need-cast-t19
+cast-t19 c =
+    let s = entry (c .before .before) in
+    omega (arith, s .pre .0 .fields .utilization-read, utilization-most (now (s .args .bytes)))
+
+cast-t20 : tie.Need-cast-t20
+cast-t20 c =
+    let s = entry (c .before .before .before) in
+    omega (arith, s .pre .0 .fields .quantum-read, quantum-most (now (s .args .bytes)))
 
 pub read-graph-spec : {M : Type 1} → statement M
 read-graph-spec =
     tie.close
     (tie.spec read-form-requires (λ c κs. search needs) (λ c κs. search needs) returns (λ c κs. search needs)
-    (λ c κs. search needs) (λ c κs. search needs) returns-2 (λ c κs. search needs) returns-3 (λ c. search needs) (λ c. search needs)
-    (λ c. search needs) (λ c. search needs) (λ c. search needs) returns-4)
+    (λ c κs. search needs) (λ c κs. search needs) returns-2 (λ c κs. search needs) returns-3 (λ c. search needs) cast-t18 cast-t19
+    cast-t20 (λ c. search needs) returns-4)

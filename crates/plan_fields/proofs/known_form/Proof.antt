@@ -1,5 +1,5 @@
--- `plan_fields::known_form` meets its contract: the two numbers are those of the table.
-use Rattle.plan_fields.proofs.Refusals.{forms-known}
+-- `plan_fields::known_form` meets its contract: the three numbers are those of the table.
+use Rattle.plan_fields.proofs.Forms.{forms-known}
 use Rattle.plan_fields.proofs.known_form.Statement.{statement}
 use Rattle.plan_fields.proofs.known_form.Tie as tie
 

@@ -7,7 +7,7 @@ use Prim.Native.Nat.{ℕ}
 use denote.Enum.Declared.{tagOf}
 use types.Run.{OneOf, miss}
 use Rattle.plan_fields.specs.declared.PlanAnswer.{PlanAnswer}
-use Rattle.plan_fields.specs.declared.PlanAnswer.the-variants.{Accepted, Short, UnknownForm, LowResponsiveness, BadUtilization}
+use Rattle.plan_fields.specs.declared.PlanAnswer.the-variants.{Accepted, Short, UnknownForm, BadResponsiveness, BadUtilization}
 use Rattle.plan_fields.specs.declared.PlanAnswer.the-variants.{NoQuantum, WrongLength, BadFields, BadSuccessors, BadPredecessors}
 use Rattle.plan_fields.specs.declared.PlanAnswer.the-variants.{LooseEnd, NoTicks}
 use Rattle.plan_fields.specs.Answers.{answer-of, passes}
@@ -24,7 +24,7 @@ unfolding refusals
 refusal Accepted k = absurd (miss refusals 0 tt k)
 refusal Short k = refl
 refusal UnknownForm k = refl
-refusal LowResponsiveness k = refl
+refusal BadResponsiveness k = refl
 refusal BadUtilization k = refl
 refusal NoQuantum k = refl
 refusal WrongLength k = refl
