@@ -64,6 +64,15 @@ static void put_ticks(plan_bytes *plan, unsigned task, unsigned ticks)
     plan->bytes[5 + 4 * (size_t)task + 3] = (uint8_t)ticks;
 }
 
+/* the same plan in form 3, in which R is so many tenths and L has 14 bits */
+static void in_form_3(plan_bytes *plan, unsigned tenths)
+{
+    uint64_t header = 0;
+    unsigned i;
+    for (i = 0; i < 5; i++) header = header << 8 | plan->bytes[i];
+    put_bits(plan->bytes, (uint64_t)3 << 36 | (uint64_t)tenths << 31 | (header >> 26 & 127) << 24 | (header & 0xFFFFFF), 5);
+}
+
 /* a tree that forks to so many leaves and joins them again: 3 * leaves - 2 tasks */
 static void fork_join(plan_bytes *plan, unsigned r, unsigned d, unsigned l, unsigned leaves)
 {
@@ -71,6 +80,17 @@ static void fork_join(plan_bytes *plan, unsigned r, unsigned d, unsigned l, unsi
     put_header(plan, 1, r, d, l, n);
     for (t = 0; t + 1 < leaves; t++) put_task(plan, t, 2, 2 * t + 1, 2 * t + 2);
     for (; t + 1 < n; t++) put_task(plan, t, 1, 2 * leaves - 1 + (t + 1 - leaves) / 2, 0);
+}
+
+/* a tree that forks to 256 leaves, 511 tasks, then a chain of 255 that joins them one by one */
+static void wide(plan_bytes *plan, unsigned r, unsigned d, unsigned l)
+{
+    unsigned t;
+    put_header(plan, 1, r, d, l, 766);
+    for (t = 0; t < 255; t++) put_task(plan, t, 2, 2 * t + 1, 2 * t + 2);
+    put_task(plan, 255, 1, 511, 0);
+    for (t = 256; t < 511; t++) put_task(plan, t, 1, t + 255, 0);
+    for (; t < 765; t++) put_task(plan, t, 1, t + 1, 0);
 }
 
 static void plan_a(plan_bytes *plan)
@@ -145,15 +165,16 @@ static unsigned random_ticks(plan_bytes *plan, unsigned most, uint64_t *seed)
     return sum;
 }
 
-/* a plan of form 1 or 2 */
+/* a plan of form 1, 2 or 3 */
 static void random_plan(plan_bytes *plan, uint64_t *seed)
 {
     static const unsigned sizes[] = {1, 2, 5, 30, 200, 1024};
-    unsigned n = 1 + below(seed, sizes[below(seed, 6)]);
-    unsigned r = 2 + below(seed, 6), d = 1 + below(seed, 100), l = below(seed, 4) == 0 ? 1 + below(seed, 65535) : 1 + below(seed, 6);
+    unsigned n = 1 + below(seed, sizes[below(seed, 6)]), form = 1 + below(seed, 3), longest = form == 3 ? 16383 : 65535;
+    unsigned r = 2 + below(seed, 6), d = 1 + below(seed, 100), l = below(seed, 4) == 0 ? 1 + below(seed, longest) : 1 + below(seed, 6);
     put_header(plan, 1, r, d, l, n);
     random_graph(plan, n, seed);
-    if (below(seed, 2) == 0) random_ticks(plan, below(seed, 3) == 0 ? JIRVALDO_TICKS_MAX : 4, seed);
+    if (form == 2) random_ticks(plan, below(seed, 3) == 0 ? JIRVALDO_TICKS_MAX : 4, seed);
+    if (form == 3) in_form_3(plan, 12 + below(seed, 9));
 }
 
 /* changes one to three bytes or the length of a plan */

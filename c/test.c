@@ -40,11 +40,12 @@ static void check_shown(const jirvaldo_job *job, uint64_t refused_calls)
     CHECK(n.refused_calls == refused_calls);
 }
 
-/* what is proved of every job, looked at from outside: R, D and L are the plan's, and its tasks have so many ticks in all */
-static void check_limits(const jirvaldo_job *job, unsigned r, unsigned d, unsigned l, unsigned ticks)
+/* what is proved of every job, looked at from outside: D and L are the plan's, its tasks have so many ticks in all, and the mug limit has
+ * so many tenths: 10 + 10 * R, and in form 3 10 + 2 * t */
+static void check_limits(const jirvaldo_job *job, unsigned tenths, unsigned d, unsigned l, unsigned ticks)
 {
     jirvaldo_numbers n = jirvaldo_counters(job, 0);
-    CHECK(n.mug * l * d <= (uint64_t)100 * (1 + r) * (n.work + n.mug));
+    CHECK(n.mug * l * d * 10 <= (uint64_t)100 * tenths * (n.work + n.mug));
     CHECK(n.worked <= n.work && n.worked <= n.tasks && n.work <= ticks);
     CHECK(ticks != n.tasks || n.work == n.worked);
     CHECK((n.worked == n.tasks) == (n.status == JIRVALDO_STATUS_FINISHED));
@@ -113,7 +114,7 @@ static void check_plan_with(void (*change)(plan_bytes *), unsigned expected)
 static void no_bytes(plan_bytes *p) { p->size = 0; }
 static void four_bytes(plan_bytes *p) { p->size = 4; }
 static void form_0(plan_bytes *p) { put_header(p, 0, 2, 80, 2, 4); }
-static void form_3(plan_bytes *p) { put_header(p, 3, 2, 80, 2, 4); }
+static void form_4(plan_bytes *p) { put_header(p, 4, 2, 80, 2, 4); }
 static void form_15(plan_bytes *p) { put_header(p, 15, 2, 80, 2, 4); }
 static void r_0(plan_bytes *p) { put_header(p, 1, 0, 80, 2, 4); }
 static void r_1(plan_bytes *p) { put_header(p, 1, 1, 80, 2, 4); }
@@ -145,7 +146,7 @@ static void as_it_is(plan_bytes *p) { (void)p; }
 static void test_plans(void)
 {
     static void (*const changes[])(plan_bytes *) = {as_it_is, one_task, r_7, d_100, l_65535, most_tasks, no_bytes, four_bytes, form_0,
-        form_3, form_15, r_0, r_1, d_0, d_101, l_0, cut, longer, header_alone, most_and_a_byte, count_3, unused_first, unused_second,
+        form_4, form_15, r_0, r_1, d_0, d_101, l_0, cut, longer, header_alone, most_and_a_byte, count_3, unused_first, unused_second,
         itself, past_the_last, twice, field_2047, no_predecessor, three_predecessors, loose_end};
     static const unsigned expected[] = {0, 0, 0, 0, 0, 0, 1, 1, 2, 2, 2, 3, 3, 4, 4, 5, 6, 6, 6, 6, 7, 7, 7, 8, 8, 8, 8, 9, 9, 10};
     jirvaldo_job *job = job_block();
@@ -189,6 +190,46 @@ static void test_plans_of_form_2(void)
         form_2_unused, form_2_twice, no_ticks_at_8, no_ticks_after_8, no_ticks, no_ticks_at_the_last, no_ticks_before_8, no_ticks_and_9,
         no_ticks_and_10, form_2_9, form_2_10};
     static const unsigned expected[] = {0, 0, 0, 0, 3, 6, 6, 6, 6, 6, 6, 6, 7, 7, 8, 8, 8, 28, 28, 28, 28, 28, 9, 10};
+    size_t i;
+    CHECK(sizeof changes / sizeof changes[0] == sizeof expected / sizeof expected[0]);
+    for (i = 0; i < sizeof expected / sizeof expected[0]; i++) check_plan_with(changes[i], expected[i]);
+}
+
+static void form_3(plan_bytes *p) { in_form_3(p, 15); }
+static void tenths_12(plan_bytes *p) { in_form_3(p, 12); }
+static void tenths_20(plan_bytes *p) { in_form_3(p, 20); }
+static void tenths_0(plan_bytes *p) { in_form_3(p, 0); }
+static void tenths_2(plan_bytes *p) { in_form_3(p, 2); }
+static void tenths_11(plan_bytes *p) { in_form_3(p, 11); }
+static void tenths_21(plan_bytes *p) { in_form_3(p, 21); }
+static void tenths_31(plan_bytes *p) { in_form_3(p, 31); }
+static void form_3_four_bytes(plan_bytes *p) { form_3(p); p->size = 4; }
+static void form_3_one_task(plan_bytes *p) { one_task(p); form_3(p); }
+static void form_3_most_tasks(plan_bytes *p) { most_tasks(p); form_3(p); }
+static void form_3_d_100(plan_bytes *p) { d_100(p); form_3(p); }
+static void form_3_d_0(plan_bytes *p) { d_0(p); form_3(p); }
+static void form_3_d_101(plan_bytes *p) { d_101(p); form_3(p); }
+static void tenths_11_d_0(plan_bytes *p) { d_0(p); in_form_3(p, 11); }
+static void form_3_l_0(plan_bytes *p) { l_0(p); form_3(p); }
+static void form_3_l_16383(plan_bytes *p) { chain(p, 2, 80, 16383, 4); form_3(p); }
+static void form_3_cut(plan_bytes *p) { form_3(p); cut(p); }
+static void form_3_longer(plan_bytes *p) { form_3(p); longer(p); }
+static void form_3_in_21_bytes(plan_bytes *p) { form_2(p); form_3(p); }
+static void form_3_most_and_a_byte(plan_bytes *p) { most_and_a_byte(p); form_3(p); }
+static void form_3_count_3(plan_bytes *p) { count_3(p); form_3(p); }
+static void form_3_unused(plan_bytes *p) { unused_second(p); form_3(p); }
+static void form_3_itself(plan_bytes *p) { itself(p); form_3(p); }
+static void form_3_twice(plan_bytes *p) { twice(p); form_3(p); }
+static void form_3_9(plan_bytes *p) { no_predecessor(p); form_3(p); }
+static void form_3_10(plan_bytes *p) { loose_end(p); form_3(p); }
+
+static void test_plans_of_form_3(void)
+{
+    static void (*const changes[])(plan_bytes *) = {form_3, tenths_12, tenths_20, form_3_one_task, form_3_most_tasks, form_3_d_100,
+        form_3_l_16383, form_3_four_bytes, tenths_0, tenths_2, tenths_11, tenths_21, tenths_31, tenths_11_d_0, form_3_d_0, form_3_d_101,
+        form_3_l_0, form_3_cut, form_3_longer, form_3_in_21_bytes, form_3_most_and_a_byte, form_3_count_3, form_3_unused, form_3_itself,
+        form_3_twice, form_3_9, form_3_10};
+    static const unsigned expected[] = {0, 0, 0, 0, 0, 0, 0, 1, 3, 3, 3, 3, 3, 3, 4, 4, 5, 6, 6, 6, 6, 7, 7, 8, 8, 9, 10};
     size_t i;
     CHECK(sizeof changes / sizeof changes[0] == sizeof expected / sizeof expected[0]);
     for (i = 0; i < sizeof expected / sizeof expected[0]; i++) check_plan_with(changes[i], expected[i]);
@@ -388,6 +429,120 @@ static void test_ticks_of_one(uint64_t *seed)
     CHECK(memcmp(short_one, long_one, sizeof *short_one) == 0);
     release_job(short_one);
     release_job(long_one);
+}
+
+/* ---- growth by tenths */
+
+/* the whole parts of 1.2^k up to 64 */
+static const unsigned row_12[23] = {1, 1, 1, 1, 2, 2, 2, 3, 4, 5, 6, 7, 8, 10, 12, 15, 18, 22, 26, 31, 38, 46, 55};
+
+static unsigned wanted(const jirvaldo_job *job)
+{
+    return (unsigned)jirvaldo_counters(job, 0).desire;
+}
+
+/* a quantum of one tick with so many workers */
+static void one_tick(jirvaldo_job *job, unsigned workers, uint64_t *seed)
+{
+    uint8_t choices[JIRVALDO_WORKERS_MAX];
+    unsigned i;
+    for (i = 0; i < workers; i++) choices[i] = (uint8_t)below(seed, workers);
+    CHECK(jirvaldo_grant(job, workers) == 0 && tick_bytes(job, choices, workers) == 0);
+}
+
+/* on a chain with D = 1 every quantum is efficient: the desire climbs its row, and stays at the top */
+static void test_climbs(void)
+{
+    static const unsigned rises[9] = {22, 15, 12, 10, 8, 7, 7, 6, 6}, tops[9] = {55, 51, 56, 57, 42, 41, 61, 47, 64};
+    plan_bytes plan;
+    jirvaldo_job *job;
+    uint64_t seed = 1;
+    unsigned i, k;
+    for (i = 0; i < 9; i++) {
+        chain(&plan, 2, 1, 1, 40);
+        in_form_3(&plan, 12 + i);
+        job = accepted(&plan);
+        for (k = 0; k < rises[i]; k++) {
+            CHECK(i != 0 || wanted(job) == row_12[k]);
+            CHECK(wanted(job) < tops[i]);
+            one_tick(job, wanted(job), &seed);
+        }
+        for (k = 0; k < 3; k++) {
+            CHECK(wanted(job) == tops[i]);
+            one_tick(job, tops[i], &seed);
+        }
+        release_job(job);
+    }
+}
+
+/* with D = 2 one worker at work is enough of 50, too few of 55: after deprived quanta at the top an inefficient one lowers the desire */
+static void test_step_down(void)
+{
+    plan_bytes plan;
+    jirvaldo_job *job;
+    uint64_t seed = 1;
+    unsigned k;
+    chain(&plan, 2, 2, 1, 60);
+    in_form_3(&plan, 12);
+    job = accepted(&plan);
+    for (k = 0; k < 22; k++) one_tick(job, row_12[k], &seed);
+    for (k = 0; k < 3; k++) {
+        one_tick(job, k * 25, &seed);
+        CHECK(wanted(job) == 55);
+    }
+    one_tick(job, 55, &seed);
+    CHECK(wanted(job) == 46);
+    one_tick(job, 46, &seed);
+    CHECK(wanted(job) == 55);
+    release_job(job);
+}
+
+/* a wide graph, on which the desire climbs to the top, and then a chain, on which it falls to one worker: quantum by quantum, every fifth
+ * of them deprived, the power goes as its rule says */
+static void test_fall(void)
+{
+    plan_bytes plan;
+    jirvaldo_job *job;
+    jirvaldo_numbers before, after;
+    uint64_t seed = 1;
+    unsigned k = 0, quanta, granted, most = 0, least = 0;
+    wide(&plan, 2, 51, 1);
+    in_form_3(&plan, 12);
+    job = accepted(&plan);
+    for (quanta = 0;; quanta++) {
+        before = jirvaldo_counters(job, 0);
+        CHECK(before.desire == row_12[k]);
+        granted = row_12[k] - (quanta % 5 == 4);
+        one_tick(job, granted, &seed);
+        after = jirvaldo_counters(job, 0);
+        if (after.status == JIRVALDO_STATUS_FINISHED) break;
+        if (100 * (after.work + after.mug - before.work - before.mug) < 51 * granted) k -= 1;
+        else if (granted == row_12[k] && k < 22) k += 1;
+        if (k >= most) most = least = k;
+        if (k < least) least = k;
+    }
+    CHECK(most == 22 && least == 3);
+    release_job(job);
+}
+
+/* 20 tenths are R = 2: call by call the same numbers */
+static void test_twenty_tenths(uint64_t *seed)
+{
+    plan_bytes plan;
+    jirvaldo_job *doubles, *tenths;
+    uint64_t go_on = random_bits(seed), go_on_too = go_on;
+    unsigned calls;
+    put_header(&plan, 1, 2, 1 + below(seed, 100), 1 + below(seed, 3), 100);
+    random_graph(&plan, 100, seed);
+    doubles = accepted(&plan);
+    in_form_3(&plan, 20);
+    tenths = accepted(&plan);
+    for (calls = 0; calls < 60; calls++) {
+        CHECK(drive(doubles, &go_on) == drive(tenths, &go_on_too));
+        CHECK(same_numbers(doubles, tenths));
+    }
+    release_job(doubles);
+    release_job(tenths);
 }
 
 /* all quanta that may begin, of 0 workers and one tick each; then as a log */
@@ -724,14 +879,14 @@ static void test_random_logs(uint64_t *seed)
 /* ---- whole jobs */
 
 /* works a job to its end; the numbers before it is finished, too, keep the limits */
-static void work_to_the_end(const plan_bytes *plan, unsigned r, unsigned d, unsigned l, unsigned ticks, uint64_t seed,
+static void work_to_the_end(const plan_bytes *plan, unsigned tenths, unsigned d, unsigned l, unsigned ticks, uint64_t seed,
     jirvaldo_numbers *shown)
 {
     jirvaldo_job *job = accepted(plan);
     unsigned answer = 0;
     while (answer == 0) {
         answer = drive(job, &seed);
-        check_limits(job, r, d, l, ticks);
+        check_limits(job, tenths, d, l, ticks);
     }
     CHECK(answer == JIRVALDO_JOB_FINISHED);
     *shown = jirvaldo_counters(job, 0);
@@ -765,12 +920,13 @@ static void test_whole_jobs(uint64_t *seed)
     plan_bytes plan;
     jirvaldo_numbers n;
     unsigned r = 2 + below(seed, 6), d = 1 + below(seed, 100), l = 1 + below(seed, 20), size = 1 + below(seed, 400), ticks = size;
-    int lasts = below(seed, 2) == 0;
-    if (lasts) size = 1 + size / 4;
+    unsigned form = 1 + below(seed, 3), t = 12 + below(seed, 9);
+    if (form == 2) size = 1 + size / 4;
     put_header(&plan, 1, r, d, l, size);
     random_graph(&plan, size, seed);
-    if (lasts) ticks = random_ticks(&plan, 7, seed);
-    work_to_the_end(&plan, r, d, l, ticks, random_bits(seed), &n);
+    if (form == 2) ticks = random_ticks(&plan, 7, seed);
+    if (form == 3) in_form_3(&plan, t);
+    work_to_the_end(&plan, form == 3 ? 10 + 2 * t : 10 + 10 * r, d, l, ticks, random_bits(seed), &n);
     CHECK(n.worked == size && n.work == ticks);
 }
 
@@ -813,6 +969,7 @@ static void test_threads(void)
     for (i = 0; i < THREADS; i++) {
         fork_join(&plans[i], 2 + i, 80, 3, 342 - i);
         if (i % 2 != 0) in_form_2(&plans[i], 1 + i);
+        if (i == 2) in_form_3(&plans[i], 13);
         at_once[i].plan = &plans[i];
         at_once[i].seed = i;
         at_once[i].job = job_block();
@@ -837,12 +994,16 @@ int main(int count, char **arguments)
     uint64_t seed = 1;
     test_plans();
     test_plans_of_form_2();
+    test_plans_of_form_3();
     test_calls();
     test_thefts();
     test_withdrawals();
     test_last_tick();
     test_lasting_tasks();
     test_most_work();
+    test_climbs();
+    test_step_down();
+    test_fall();
     test_spent_quanta();
     test_logs();
     test_wordings();
@@ -860,6 +1021,7 @@ int main(int count, char **arguments)
         test_random_logs(&seed);
         test_whole_jobs(&seed);
         test_ticks_of_one(&seed);
+        test_twenty_tenths(&seed);
     }
     printf("%lu checks passed\n", checks);
     return 0;

@@ -1,9 +1,10 @@
 /* Jirvaldo: a proved A-Steal scheduler core, for C99 and C++11 on x86-64 Linux. Link with -ljirvaldo; docs/INTEGRATING.md has the rest.
  *
  * A plan (a task graph in bytes) becomes a job in memory that you lend. A grant gives the job a number of workers and opens a quantum of
- * L ticks; in each tick every granted worker takes one cycle. A task lasts one tick in a plan of form 1, 1 to 255 in one of form 2, and is
- * worked when all its ticks are done. A function answers with 0, or with the number of the refusal; the first question that is answered by
- * no gives the number. Nothing is allocated, nothing is kept between calls, no file is read or written.
+ * L ticks; in each tick every granted worker takes one cycle. A task lasts one tick in a plan of form 1 or 3, 1 to 255 in one of form 2,
+ * and is worked when all its ticks are done. How many workers the job wants grows by a factor of 2 to 7 in forms 1 and 2, of 1.2 to 2.0 in
+ * form 3. A function answers with 0, or with the number of the refusal; the first question that is answered by no gives the number. Nothing
+ * is allocated, nothing is kept between calls, no file is read or written.
  *
  * Proved, for all that a caller can hand over: the jirvaldo_core functions in the archive (the contracts of crates/exports
  * and, for a log, of crates/exports_log).
@@ -25,22 +26,22 @@ extern "C" {
 
 enum {
     JIRVALDO_TASKS_MAX = 1024,  /* tasks of a plan */
-    JIRVALDO_PLAN_MAX = 4101,   /* bytes of the longest plan, 5 + 4 * 1,024 */
+    JIRVALDO_PLAN_MAX = 4101,   /* bytes of the longest plan, 5 + 4 * 1,024 in form 2 */
     JIRVALDO_TICKS_MAX = 255,   /* ticks that a task can last */
     JIRVALDO_WORKERS_MAX = 64,  /* workers that a job can want, and choices of a tick */
     JIRVALDO_QUANTA_MAX = 4096, /* quanta that a job may begin, those without a worker too */
     JIRVALDO_LINE_BUFFER = 128, /* bytes that a buffer for the counters line needs */
-    JIRVALDO_JOB_SIZE = 10896   /* bytes of a job */
+    JIRVALDO_JOB_SIZE = 10912   /* bytes of a job */
 };
 
 /* A job: plain data without pointers. Lend it and leave its fields alone. It need not be cleared before a plan is accepted into it; a byte
  * copy of a job is a job; there is nothing to free. */
 typedef struct jirvaldo_job {
-    uint64_t words_[18];
+    uint64_t words_[20];
     uint16_t memory_[5376];
 } jirvaldo_job;
 
-typedef char jirvaldo_job_has_10896_bytes[sizeof(jirvaldo_job) == JIRVALDO_JOB_SIZE ? 1 : -1];
+typedef char jirvaldo_job_has_10912_bytes[sizeof(jirvaldo_job) == JIRVALDO_JOB_SIZE ? 1 : -1];
 typedef char jirvaldo_sizes_have_64_bits[sizeof(size_t) == 8 ? 1 : -1];
 
 /* The refusals; jirvaldo_sentence says each. 21 and 22 are given by the program alone, by no function here. */
@@ -110,8 +111,9 @@ void jirvaldo_core_counters(const uint64_t *words, uint64_t refusals, uint64_t *
 uint8_t jirvaldo_core_line(const uint64_t *words, uint64_t refusals, uint8_t *buffer, size_t buffer_size, size_t *size);
 
 /* Accepts a plan of any bytes. 0: the memory holds the fresh job of this plan, whatever it held before; the plan's bytes are not needed
- * any more. A plan of form 2 has a fourth byte a task, the ticks that it lasts. 1 to 10, 28: the plan breaks that rule, and the memory is
- * byte for byte as it came; 28 is asked of a task after 7 and 8, before the next task. */
+ * any more. A plan of form 2 has a fourth byte a task, the ticks that it lasts. One of form 3 has R in tenths, 12 to 20, and L of 14 bits.
+ * 1 to 10, 28: the plan breaks that rule, and the memory is byte for byte as it came; 28 is asked of a task after 7 and 8, before the next
+ * task. */
 static inline unsigned jirvaldo_accept(jirvaldo_job *job, const uint8_t *plan, size_t size)
 {
     const uint8_t none = 0;
@@ -131,7 +133,10 @@ static inline unsigned jirvaldo_grant(jirvaldo_job *job, uint64_t workers)
  * of an unfinished job closes the quantum. A worker that works does one tick of its deque's front task, which stays at the front until its
  * last one; then it is worked, and those of its successors that became ready take its place. A deque that is withdrawn or mugged keeps the
  * ticks that are done. A worker that steals gets the back half of the chosen deque, rounded down and in its order, if that has two or more
- * tasks, and else nothing. A worker after the one that finished the job counts a steal, which gets nothing. 11: the job is finished. 15: no
+ * tasks, and else nothing. A worker after the one that finished the job counts a steal, which gets nothing. Where the quantum closes, the
+ * desire moves: in forms 1 and 2 it is divided by R after an inefficient quantum, and multiplied by R after an efficient and satisfied one
+ * unless that exceeds 64; in form 3 it is the whole part of (t / 10)^k, with t tenths, and k is 0 at first, one less after an inefficient
+ * quantum, and one more after an efficient and satisfied one as long as the desire is then at most 64. 11: the job is finished. 15: no
  * quantum is open. 16: there is not exactly one choice for each granted worker. 17: a choice is not below the granted number. Refused, the
  * job is byte for byte as it was. */
 static inline unsigned jirvaldo_tick(jirvaldo_job *job, const uint8_t *choices, size_t size)
@@ -209,11 +214,11 @@ static inline const char *jirvaldo_sentence(unsigned number)
     switch (number) {
     case JIRVALDO_OK: return "Accepted.";
     case JIRVALDO_PLAN_SHORT: return "The plan has fewer than 5 bytes, so its header is not whole.";
-    case JIRVALDO_PLAN_FORM: return "The plan's form is neither 1 nor 2.";
-    case JIRVALDO_PLAN_RESPONSIVENESS: return "The plan's R, the responsiveness, is below 2.";
+    case JIRVALDO_PLAN_FORM: return "The plan's form is not 1, 2 or 3.";
+    case JIRVALDO_PLAN_RESPONSIVENESS: return "The plan's R, the responsiveness, is below 2, or in form 3 not from 12 to 20 tenths.";
     case JIRVALDO_PLAN_UTILIZATION: return "The plan's D, the utilization in percent, is not from 1 to 100.";
     case JIRVALDO_PLAN_QUANTUM_LENGTH: return "The plan's L, the quantum length, is 0; a quantum has at least one tick.";
-    case JIRVALDO_PLAN_LENGTH: return "The plan is not 5 + 3 * N bytes long in form 1, or 5 + 4 * N in form 2, for its header's N tasks.";
+    case JIRVALDO_PLAN_LENGTH: return "The plan is not 5 + 3 * N bytes long in form 1 or 3, or 5 + 4 * N in form 2, for its header's N tasks.";
     case JIRVALDO_PLAN_FIELDS: return "A task's successor count is 3, or one of its unused successor fields is not 0.";
     case JIRVALDO_PLAN_SUCCESSORS: return "A task's successor is not above the task, is not below N, or is named twice.";
     case JIRVALDO_PLAN_PREDECESSORS: return "A task from 1 up has no predecessor, or more than two.";

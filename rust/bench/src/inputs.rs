@@ -4,7 +4,7 @@ use reference::generator::graph::{graph, Graph, Shape, MOST_TASKS};
 use reference::generator::logs::Writer;
 use reference::generator::plans::Draft;
 use reference::generator::Random;
-use reference::{run_log, run_log_with, Cycle, Job, Refusal, Report, MOST_QUANTA};
+use reference::{run_log, run_log_with, Cycle, Job, QuantumEnd, Refusal, Report, MOST_QUANTA};
 
 /// A plan, the log that brings its job to the measured state, and the calls that are measured, as a log too.
 pub struct Scene {
@@ -160,6 +160,25 @@ fn theft(cycle: &Cycle) -> Option<(u16, u16)> {
         Cycle::Steal { stolen, left, .. } if stolen > 0 => Some((stolen, left)),
         _ => None,
     }
+}
+
+/// How many quanta of a scene's measured calls raise the desire, find it at its top, are deprived and are inefficient.
+fn ends(scene: &Scene) -> [usize; 4] {
+    let mut job = Job::accept(&scene.plan).expect("the benchmark's plans are sound");
+    run_log(&mut job, &scene.before);
+    let mut ends = [0; 4];
+    run_log_with(&mut job, &scene.timed, |_, _, answer| {
+        if let Ok(Report::Tick(report)) = answer {
+            match report.quantum_end {
+                Some(QuantumEnd::Grown) => ends[0] += 1,
+                Some(QuantumEnd::AtCap) => ends[1] += 1,
+                Some(QuantumEnd::Deprived) => ends[2] += 1,
+                Some(QuantumEnd::Inefficient { .. }) => ends[3] += 1,
+                None => (),
+            }
+        }
+    });
+    ends
 }
 
 /// Whether a scene grants no quantum after the last that may begin.
@@ -376,17 +395,33 @@ pub fn lasting_plans(tasks: usize, count: usize) -> Vec<Vec<u8>> {
 /// The most bytes of a log here: as many as the program's whole input may have.
 const LOG_BYTES: usize = 65_536;
 
-/// Grants of any kind and random choices until the log is full: work, mug and steal cycles, quanta of none, some refused calls.
+/// A log of any kind of a plan that works two tasks at a time, with R = 2 and quanta of four ticks.
 pub fn mixed_log() -> Scene {
     let mut random = Random::new(3);
     let graph = graph(&mut random, Shape::Layered { width: 2 }, MOST_TASKS);
-    let plan = plan_bytes(&graph, 2, 4);
+    any_log(&mut random, plan_bytes(&graph, 2, 4))
+}
+
+/// The same in form 3 with 12 tenths, D = 3 and quanta of one tick, so that every second entry ends one. The desire climbs to 55, where two
+/// workers at work are enough for an efficient quantum and one is not.
+pub fn gentle_log() -> Scene {
+    let mut random = Random::new(8);
+    let graph = graph(&mut random, Shape::Layered { width: 2 }, MOST_TASKS);
+    let mut draft = draft(&graph, 2, 1).gentle(12);
+    draft.utilization = 3;
+    let scene = any_log(&mut random, draft.bytes());
+    assert_eq!(ends(&scene), [325, 105, 445, 305], "1,180 quanta");
+    scene
+}
+
+/// Grants of any kind and random choices until the log is full: work, mug and steal cycles, quanta of none, some refused calls.
+fn any_log(random: &mut Random, plan: Vec<u8>) -> Scene {
     let mut writer = writer(&plan);
     loop {
         let desire = writer.job.desire();
         let workers = writer.job.allotment();
         if random.chance(4) {
-            writer.stray(&mut random);
+            writer.stray(random);
         } else if writer.job.open_quantum().is_none() {
             let any = random.below(desire + 1);
             writer.grant(*random.pick(&[desire, desire, desire, any, 0]).unwrap_or(&0));

@@ -4,11 +4,12 @@
 #[derive(Clone)]
 pub struct Job {
     memory: [u16; MEMORY],
-    words: [u64; 18],
+    words: [u64; WORDS],
 }
 
 /// Five numbers of each task, and the ends of the deques.
 const MEMORY: usize = 5 * 1024 + 256;
+const WORDS: usize = 20;
 
 #[link(name = "jirvaldo", kind = "static")]
 extern "C" {
@@ -56,7 +57,7 @@ impl Job {
     pub fn blank() -> Job {
         Job {
             memory: [0; MEMORY],
-            words: [0; 18],
+            words: [0; WORDS],
         }
     }
 

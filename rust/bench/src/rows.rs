@@ -326,6 +326,7 @@ pub fn replay(name: &str, scene: &Scene) -> Row {
 pub fn table() -> Vec<Row> {
     let mixed = inputs::mixed_log();
     let withdrawn = inputs::withdrawn();
+    let short_lines = b"waiting\nrunning\non hold\ndone\n";
     let long_lines = [&b"x".repeat(999)[..], b"\n"].concat().repeat(4);
     vec![
         acceptances("accept-1024", &inputs::plans(1024, 16)),
@@ -348,16 +349,10 @@ pub fn table() -> Vec<Row> {
         ),
         row!("grant-and-back-64", "round trip", 50, calls, &withdrawn, 50),
         row!("line", "line", REPEATS, lines, &mixed),
-        row!(
-            "label",
-            "label",
-            REPEATS,
-            labels,
-            &mixed,
-            b"waiting\nrunning\non hold\ndone\n"
-        ),
+        row!("label", "label", REPEATS, labels, &mixed, short_lines),
         row!("label-4000", "label", REPEATS, labels, &mixed, &long_lines),
         replay("replay-mixed", &mixed),
+        replay("replay-gentle", &inputs::gentle_log()),
         replay("replay-64", &inputs::wide_log()),
         replay("replay-short", &inputs::short_log()),
     ]

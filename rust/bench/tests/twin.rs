@@ -1,9 +1,9 @@
 //! The twin against the second implementation, on its generated cases.
 
 use bench::twin::{Job, View};
-use reference::generator::cases;
+use reference::generator::{cases, gentle_cases, Case};
 use reference::log::{run_log_with, Entry};
-use reference::{counters_line, wording, Job as Reference};
+use reference::{counters_line, wording, Growth, Job as Reference};
 
 /// The reference's job as the twin shows its own.
 fn view(job: &Reference) -> View {
@@ -13,6 +13,7 @@ fn view(job: &Reference) -> View {
         deques: job.deques().iter().map(tasks).collect(),
         muggable: job.muggable_deques().into_iter().map(tasks).collect(),
         desire: job.desire(),
+        power: job.power(),
         open_quantum: job
             .open_quantum()
             .map(|quantum| (quantum.ticks, quantum.usage)),
@@ -43,10 +44,10 @@ fn same_texts(twin: &Job, job: &Reference, refused: u64, sheet: &[u8], buffer: u
     assert_eq!(twin.status(), job.status().number());
 }
 
-#[test]
-fn generated_cases() {
+/// The twin and the reference, entry by entry and log by log; `seen` looks at the reference's job after each entry.
+fn compared(cases: impl Iterator<Item = Case>, mut seen: impl FnMut(&Reference)) {
     let mut twin = Job::blank();
-    for case in cases(7).take(4_000) {
+    for case in cases {
         let before = twin.view();
         let number = twin.accept(&case.plan);
         let mut job = match Reference::accept(&case.plan) {
@@ -64,10 +65,9 @@ fn generated_cases() {
                 Entry::Grant(workers) => stepped.grant(workers as u64),
                 Entry::Tick(choices) => stepped.tick(choices),
             };
-            assert_eq!(
-                number,
-                answer.as_ref().err().map_or(0, |refusal| refusal.number())
-            );
+            let expected = answer.as_ref().err().map_or(0, |refusal| refusal.number());
+            assert_eq!(number, expected);
+            seen(after);
             entries += 1;
             if entries < 3_000 || entries % 1_000 == 0 {
                 assert_eq!(stepped.view(), view(after));
@@ -83,6 +83,24 @@ fn generated_cases() {
         same_texts(&twin, &job, refused, &case.sheet, case.buffer);
         same_texts(&twin, &job, u64::MAX, &case.sheet.repeat(9), 128);
     }
+}
+
+#[test]
+fn generated_cases() {
+    compared(cases(7).take(4_000), |_| ());
+}
+
+/// Every power of every ratio is reached.
+#[test]
+fn generated_cases_of_form_3() {
+    let mut reached = [[false; 23]; 9];
+    compared(gentle_cases(7).take(3_000), |job| {
+        if let Growth::Tenths(tenths) = job.plan().growth() {
+            reached[usize::from(tenths) - 12][job.power() as usize] = true;
+        }
+    });
+    let powers = reached.map(|row| row.iter().filter(|&&reached| reached).count());
+    assert_eq!(powers, [23, 16, 13, 11, 9, 8, 8, 7, 7]);
 }
 
 #[test]

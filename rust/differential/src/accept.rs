@@ -1,7 +1,6 @@
 //! A plan is given to both.
 
 use jirvaldo::inspect::State;
-use reference::generator::plans::sound_draft;
 use reference::generator::Random;
 
 use crate::compare;
@@ -67,7 +66,7 @@ fn replaced(
     plan: &[u8],
     totals: &mut Totals,
 ) -> Result<Result<Proved, jirvaldo::Refusal>, Difference> {
-    let old = sound_draft(random).bytes();
+    let old = inputs::sound(random).bytes();
     let (mut proved, reference) = match (Proved::accept(&old), Reference::accept(&old)) {
         (Ok(proved), Ok(reference)) => (proved, reference),
         _ => {

@@ -1,6 +1,6 @@
 //! The whole states of two jobs, compared in place.
 
-use jirvaldo::inspect::View;
+use jirvaldo::inspect::{Growth, View};
 use jirvaldo::Counters;
 
 use crate::pair::{Proved, Reference};
@@ -27,6 +27,7 @@ fn numbers(view: View, reference: &Reference) -> Option<Part> {
     let ticks = view.open_ticks().map(u32::from);
     first_other(&[
         ("desire", usize::from(view.desire()) == reference.desire()),
+        ("power", u32::from(view.power()) == reference.power()),
         ("allotment", view.allotment() == reference.allotment()),
         ("started", view.started() == reference.ever_granted()),
         (
@@ -107,6 +108,14 @@ fn tasks(view: View, reference: &Reference) -> Option<Part> {
     ])
 }
 
+/// A plan's responsiveness as the reference has it.
+fn growth(view: View) -> reference::Growth {
+    match view.growth() {
+        Growth::Factor(r) => reference::Growth::Factor(r),
+        Growth::Tenths(tenths) => reference::Growth::Tenths(tenths),
+    }
+}
+
 /// In what the two plans differ, if they do.
 pub fn plans(proved: &Proved, reference: &Reference) -> Option<Part> {
     let (view, plan) = (View::of(proved), reference.plan());
@@ -117,10 +126,7 @@ pub fn plans(proved: &Proved, reference: &Reference) -> Option<Part> {
         view.successors(number).eq(successors)
     };
     first_other(&[
-        (
-            "R",
-            usize::from(view.responsiveness()) == plan.responsiveness(),
-        ),
+        ("R", growth(view) == plan.growth()),
         ("D", u64::from(view.utilization()) == plan.utilization()),
         (
             "L",

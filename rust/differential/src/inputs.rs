@@ -1,8 +1,8 @@
 //! The inputs of a case, over the reference's generator: plans, logs, sheets, buffers.
 
 use reference::generator::damage::damaged_plan;
-use reference::generator::logs::{blind_log, guided_log, style, Style};
-use reference::generator::plans::{lasting, sound_draft, wide_draft};
+use reference::generator::logs::{blind_log, guided_log, style_for, Style};
+use reference::generator::plans::{gentle_draft, lasting, sound_draft, wide_draft, Draft};
 use reference::generator::Random;
 
 use crate::pair::Reference;
@@ -11,16 +11,26 @@ use crate::pair::Reference;
 const LONG_QUANTUM: u32 = 1_000;
 const MOST_IN_LONG_QUANTA: usize = 2_000;
 
-/// A plan: sound (two of three), damaged, or noise. Two of five are of form 2.
-pub fn plan(random: &mut Random) -> Vec<u8> {
-    let mut draft = if random.chance(64) {
-        wide_draft(random)
+/// A sound plan, two of five of form 3.
+pub fn sound(random: &mut Random) -> Draft {
+    if random.chance(100) {
+        gentle_draft(random)
     } else {
         sound_draft(random)
-    };
-    if !draft.has_ticks && random.chance(40) {
-        draft = lasting(random, draft);
     }
+}
+
+/// A plan: sound (two of three), damaged, or noise. A fifth is of form 2, and three of eight are of form 3.
+pub fn plan(random: &mut Random) -> Vec<u8> {
+    let draft = match random.below(16) {
+        0..=5 => gentle_draft(random),
+        6..=8 => wide_draft(random),
+        9 => {
+            let draft = wide_draft(random);
+            lasting(random, draft)
+        }
+        _ => sound_draft(random),
+    };
     match random.below(24) {
         0..=6 => damaged_plan(random, &draft),
         7 => {
@@ -33,7 +43,7 @@ pub fn plan(random: &mut Random) -> Vec<u8> {
 
 /// A log for a job: one that follows it (three of four), the same with some bytes changed, or one that does not look at it.
 pub fn log(random: &mut Random, job: &Reference) -> Vec<u8> {
-    let mut style = style(random);
+    let mut style = style_for(random, job);
     if job.plan().quantum_length() > LONG_QUANTUM {
         style.budget = style.budget.min(MOST_IN_LONG_QUANTA);
     }
@@ -54,7 +64,7 @@ pub fn log(random: &mut Random, job: &Reference) -> Vec<u8> {
 pub fn short_log(random: &mut Random, job: &Reference) -> Vec<u8> {
     let style = Style {
         budget: random.below(300),
-        ..style(random)
+        ..style_for(random, job)
     };
     guided_log(random, job.clone(), &style)
 }

@@ -95,6 +95,9 @@ impl Pair {
                     if self.reference.is_finished() {
                         totals.count_finish(report);
                     }
+                    if let Some(end) = report.quantum_end {
+                        totals.ratios.cover_end(&self.reference, end);
+                    }
                 }
                 reference_number(&answer)
             }

@@ -2,9 +2,9 @@
 
 use std::time::Instant;
 
-use reference::generator::edges::edge_plans;
+use reference::generator::edges::{edge_plans, gentle_edge_plans};
 use reference::generator::logs::marathon_log;
-use reference::generator::plans::marathon_draft;
+use reference::generator::plans::{gentle_marathon_draft, marathon_draft};
 use reference::generator::Random;
 
 use crate::accept::accept;
@@ -16,7 +16,7 @@ use crate::walk::Walk;
 
 /// Runs cases until the calls or the time are spent, or something differs.
 pub fn run(options: &Options, totals: &mut Totals) -> Result<(), Found> {
-    let edges = edge_plans();
+    let edges = [edge_plans(), gentle_edge_plans()].concat();
     if let Some(case) = options.case {
         return run_case(options.seed, case, &edges, totals);
     }
@@ -47,11 +47,15 @@ fn is_marathon(case: u64) -> bool {
     case % 100 == 0
 }
 
-/// Every hundredth case has a plan for as many quanta as a job may begin. The cases after the first have those at the edge of each
-/// question, all others any.
+/// Every hundredth case has a plan for as many quanta as a job may begin, every third of them of form 3. The cases after the first have
+/// those at the edge of each question, all others any.
 fn plan(random: &mut Random, case: u64, edges: &[Vec<u8>]) -> Vec<u8> {
     if is_marathon(case) {
-        return marathon_draft(random).bytes();
+        let draft = match case % 300 {
+            0 => gentle_marathon_draft(random),
+            _ => marathon_draft(random),
+        };
+        return draft.bytes();
     }
     let others_before = case - 1 - case / 100;
     let edge = usize::try_from(others_before).ok();

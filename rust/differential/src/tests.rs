@@ -3,10 +3,11 @@
 use std::time::Duration;
 
 use reference::generator::logs::marathon_log;
-use reference::generator::plans::{marathon_draft, sound_draft, Draft};
+use reference::generator::plans::{gentle_draft, gentle_marathon_draft, marathon_draft};
+use reference::generator::plans::{sound_draft, Draft};
 use reference::generator::Random;
-use reference::{form, lasting, rest, theft, withdrawal};
-use reference::{DigitCount, Entries, Lasting, Rest, Rules, MOST_QUANTA};
+use reference::{form, growth, lasting, rest, theft, withdrawal};
+use reference::{DigitCount, Entries, Lasting, Pace, Rest, Rules, MOST_QUANTA};
 
 use crate::accept::{answered, fresh};
 use crate::compare::{self, Part};
@@ -84,8 +85,10 @@ fn other_deques_are_found() {
 #[test]
 fn other_plans_are_found() {
     type Change = fn(&mut Draft);
-    let changes: [(Part, Change); 6] = [
+    let changes: [(Part, Change); 7] = [
         ("R", |draft| draft.responsiveness = 3),
+        // The same growth, and another unit.
+        ("R", |draft| *draft = fork().gentle(20)),
         ("D", |draft| draft.utilization = 81),
         ("L", |draft| draft.quantum_length = 65_535),
         ("N", |draft| {
@@ -166,7 +169,10 @@ fn one_turned_task_is_found_on_the_way() {
 /// What differs where the reference lets that many quanta begin: call by call, and with the log run whole.
 fn with_limit(most_quanta: u32, seed: u64) -> [Option<Part>; 2] {
     let random = &mut Random::new(seed);
-    let plan = marathon_draft(random);
+    let plan = match seed % 2 {
+        0 => marathon_draft(random),
+        _ => gentle_marathon_draft(random),
+    };
     let mut pair = pair(&plan, &plan);
     let log = marathon_log(random, pair.reference.clone());
     pair.reference = pair.reference.with_rules(Rules {
@@ -191,10 +197,13 @@ fn another_limit_of_quanta_is_found() {
     }
 }
 
+/// How plans are drawn: of forms 1 and 2, or of form 3.
+type Drawn = fn(&mut Random) -> Draft;
+
 /// In what the jobs of a generated case first differ where the reference follows those rules.
-fn with_rules(rules: Rules, seed: u64) -> Option<Part> {
+fn with_rules(rules: Rules, drawn: Drawn, seed: u64) -> Option<Part> {
     let random = &mut Random::new(seed);
-    let plan = sound_draft(random);
+    let plan = drawn(random);
     let mut pair = pair(&plan, &plan);
     let log = inputs::log(random, &pair.reference);
     pair.reference = pair.reference.with_rules(rules);
@@ -205,21 +214,23 @@ fn with_rules(rules: Rules, seed: u64) -> Option<Part> {
 }
 
 /// The same of so many cases, without those that do not differ.
-fn parts_with(rules: Rules, cases: u64) -> Vec<Part> {
-    let parts = (0..cases).map(|seed| with_rules(rules, seed));
+fn parts_with(rules: Rules, drawn: Drawn, cases: u64) -> Vec<Part> {
+    let parts = (0..cases).map(|seed| with_rules(rules, drawn, seed));
     parts.flatten().collect()
 }
 
 /// The same of bent rules, by which more than 25 of the cases differ.
-fn parts_with_bent(rules: Rules, cases: u64) -> Vec<Part> {
-    let parts = parts_with(rules, cases);
+fn parts_with_bent(rules: Rules, drawn: Drawn, cases: u64) -> Vec<Part> {
+    let parts = parts_with(rules, drawn, cases);
     assert!(parts.len() > 25, "{} with {rules:?}", parts.len());
     parts
 }
 
 #[test]
 fn the_right_rules_do_not_differ() {
-    assert!(parts_with(Rules::default(), 1_000).is_empty());
+    for drawn in [sound_draft, gentle_draft] {
+        assert!(parts_with(Rules::default(), drawn, 1_000).is_empty());
+    }
 }
 
 #[test]
@@ -227,7 +238,7 @@ fn another_theft_is_found() {
     let right = Rules::default();
     for theft in theft::BENT {
         // Not in all: most logs have few steals that succeed, and most of these take one task.
-        let parts = parts_with_bent(Rules { theft, ..right }, 400);
+        let parts = parts_with_bent(Rules { theft, ..right }, sound_draft, 400);
         let part = if theft.each_succeeds {
             "successful steals"
         } else {
@@ -242,7 +253,7 @@ fn another_turn_is_found() {
     let right = Rules::default();
     for turn in withdrawal::BENT {
         // Not in all: it takes a grant that withdraws two deques, or one while others wait.
-        let parts = parts_with_bent(Rules { turn, ..right }, 1_500);
+        let parts = parts_with_bent(Rules { turn, ..right }, sound_draft, 1_500);
         // The grant itself shows it, before anything is taken.
         assert!(parts.iter().all(|&part| part == "muggable deques"));
     }
@@ -253,7 +264,7 @@ fn another_rest_is_found() {
     let right = Rules::default();
     for rest in rest::BENT {
         // Not in all: it takes a log that finishes its job, mostly with workers after the finisher.
-        let parts = parts_with_bent(Rules { rest, ..right }, 1_000);
+        let parts = parts_with_bent(Rules { rest, ..right }, sound_draft, 1_000);
         let part = match rest {
             Rest::EachSucceeds => "successful steals",
             Rest::EachMugs => "usage",
@@ -268,7 +279,7 @@ fn another_lasting_is_found() {
     let right = Rules::default();
     for lasting in lasting::BENT {
         // Not in all: it takes a plan of form 2, and a log that goes so far.
-        let parts = parts_with_bent(Rules { lasting, ..right }, 1_000);
+        let parts = parts_with_bent(Rules { lasting, ..right }, sound_draft, 1_000);
         let part = match lasting {
             Lasting::AnewWithdrawn | Lasting::AnewMugged | Lasting::AnewRobbed => "ticks left",
             Lasting::BegunIsWorked | Lasting::TicksAsWorked => "counters: worked",
@@ -278,6 +289,60 @@ fn another_lasting_is_found() {
         };
         assert!(parts.contains(&part), "{lasting:?}: {parts:?}");
     }
+}
+
+/// How plans are drawn by which a rule differs from the request's: some differ at the top of one ratio alone.
+fn drawn_for(pace: Pace) -> Drawn {
+    match pace {
+        Pace::IntoTheNextRow => |random| gentle_draft(random).gentle(12),
+        Pace::AtMostSixtyThree | Pace::BelowSixtyFour => |random| gentle_draft(random).gentle(20),
+        _ => gentle_draft,
+    }
+}
+
+#[test]
+fn another_pace_is_found() {
+    let right = Rules::default();
+    for pace in growth::BENT {
+        let rules = Rules { pace, ..right };
+        // Not in all: most logs do not climb to the top, and some never fall.
+        let parts = parts_with_bent(rules, drawn_for(pace), 1_000);
+        let part = match pace {
+            Pace::PaddedWithTops => "power",
+            _ => "desire",
+        };
+        assert!(parts.contains(&part), "{pace:?}: {parts:?}");
+        // Forms 1 and 2 keep their own.
+        assert!(parts_with(rules, sound_draft, 100).is_empty());
+    }
+}
+
+#[test]
+fn a_power_that_is_not_kept_is_found() {
+    let pace = Pace::TenthsAlone;
+    let rules = Rules {
+        pace,
+        ..Rules::default()
+    };
+    let parts = parts_with_bent(rules, sound_draft, 200);
+    assert!(parts.iter().all(|&part| part == "power"));
+    assert!(parts_with(rules, gentle_draft, 200).is_empty());
+}
+
+#[test]
+fn another_ratio_is_found() {
+    // 1.5 and 1.6 to the third power are above 3 and 4.
+    let chain: Vec<Vec<u16>> = (1..9).map(|next| vec![next]).chain([vec![]]).collect();
+    let mut plan = Draft::of_graph(&chain);
+    (plan.utilization, plan.quantum_length) = (1, 1);
+    let log = [&[1, 0x81, 0, 1, 0x81, 0][..], &[2, 0x82, 0, 0]].concat();
+    let part = |tenths: u64, log: &[u8]| {
+        let plans = [15, tenths].map(|tenths| plan.clone().gentle(tenths));
+        part_after(pair(&plans[0], &plans[1]), log, log)
+    };
+    assert_eq!(part(15, &log), None);
+    assert_eq!(part(16, &log[..6]), None);
+    assert_eq!(part(16, &log), Some("desire"));
 }
 
 /// How many of so many generated plans are answered otherwise by each bent reading.
@@ -301,7 +366,7 @@ fn read_otherwise(plans: u64) -> Vec<usize> {
 
 #[test]
 fn another_reading_is_found() {
-    let found = read_otherwise(4_000);
+    let found = read_otherwise(6_500);
     for ((_, name), found) in form::BENT.iter().zip(found) {
         assert!(found > 25, "{found} with {name}");
     }
@@ -413,17 +478,19 @@ fn options(calls: u64, seed: u64, case: Option<u64>) -> Options {
 #[test]
 fn a_run_reaches_every_refusal() {
     let mut totals = Totals::default();
-    let ran = run(&options(250_000, 3, None), &mut totals);
+    let ran = run(&options(1_000_000, 3, None), &mut totals);
     assert!(
         ran.is_ok(),
         "{}",
         ran.err().map_or(String::new(), |found| found.to_string())
     );
-    assert!(totals.calls >= 250_000 && totals.states > totals.calls);
+    assert!(totals.calls >= 1_000_000 && totals.states > totals.calls);
     let numbers = jirvaldo::Refusal::ALL.map(|refusal| usize::from(refusal.number()));
     assert!(numbers.iter().all(|&number| totals.refusals[number] > 0));
     assert!(totals.log_refusals[11..=17].iter().all(|&count| count > 0));
     assert!(totals.responsiveness[2..].iter().all(|&count| count > 0));
+    assert!(totals.ratios.iter().all(|(_, powers)| powers.plans > 0));
+    assert_eq!(totals.ratios.missing(), [""; 0]);
     assert!(totals.ticks[0] > 0 && totals.ticks[64] > 0);
     assert!(totals.digits[1..].iter().all(|&count| count > 0));
     assert!(totals.thefts.iter().all(|&count| count > 0));

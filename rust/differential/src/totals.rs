@@ -2,7 +2,8 @@
 
 use std::fmt;
 
-use reference::{Cycle, DigitCount, GrantReport, Plan, Tick, TickReport};
+use reference::coverage::{Powers, Ratios};
+use reference::{Cycle, DigitCount, GrantReport, Growth, Plan, Tick, TickReport};
 
 use crate::pair::{Call, Reference};
 
@@ -20,8 +21,10 @@ pub struct Totals {
     pub plans: u64,
     /// Plans that took the place of a used job.
     pub replacements: u64,
-    /// Accepted plans by R.
+    /// Accepted plans of forms 1 and 2 by R.
     pub responsiveness: [u64; 8],
+    /// Accepted plans of form 3 by R in tenths, and what all calls reached of their powers.
+    pub ratios: Ratios,
     /// Those of them with a task of several ticks, and with one of 255.
     pub lasting: [u64; 2],
     /// Refusals by number; places that are no number are not used.
@@ -69,6 +72,7 @@ impl Default for Totals {
             plans: 0,
             replacements: 0,
             responsiveness: [0; 8],
+            ratios: Ratios::default(),
             lasting: [0; 2],
             refusals: [0; NUMBERS],
             calls: 0,
@@ -111,7 +115,10 @@ impl Totals {
     /// Counts an accepted plan.
     pub fn count_plan(&mut self, plan: &Plan) {
         self.plans += 1;
-        add(&mut self.responsiveness, plan.responsiveness());
+        match plan.growth() {
+            Growth::Factor(r) => add(&mut self.responsiveness, usize::from(r)),
+            growth => self.ratios.cover_plan(growth),
+        }
         let most = plan.tasks().iter().map(|task| task.ticks()).max();
         self.lasting[0] += u64::from(most > Some(1));
         self.lasting[1] += u64::from(most == Some(255));
@@ -203,6 +210,36 @@ impl Totals {
     }
 }
 
+impl Totals {
+    /// Three lines about the plans of form 3.
+    fn show_ratios(&self, out: &mut fmt::Formatter<'_>) -> fmt::Result {
+        let each = |count: fn(&Powers) -> u64| -> Vec<u64> {
+            let counts = self.ratios.iter().map(|(_, powers)| count(powers));
+            counts.collect()
+        };
+        let sum = |count| each(count).iter().sum::<u64>();
+        let plans = each(|powers| powers.plans);
+        writeln!(
+            out,
+            "{:>12}  of them of form 3, by R from 12 to 20 tenths: {plans:?}",
+            plans.iter().sum::<u64>()
+        )?;
+        writeln!(
+            out,
+            "{:>12}  rises of their power, {} falls, {} quanta at the top, {} efficient and deprived",
+            sum(|powers| powers.rises.iter().sum()),
+            sum(|powers| powers.falls.iter().sum()),
+            sum(|powers| powers.capped),
+            sum(|powers| powers.deprived.iter().sum())
+        )?;
+        writeln!(
+            out,
+            "{:>12}  rises from a power, falls to one and tops of theirs never reached",
+            self.ratios.missing().len()
+        )
+    }
+}
+
 impl fmt::Display for Totals {
     fn fmt(&self, out: &mut fmt::Formatter<'_>) -> fmt::Result {
         let refused_plans: u64 = OF_PLANS.iter().map(|&number| self.refusals[number]).sum();
@@ -210,10 +247,11 @@ impl fmt::Display for Totals {
         writeln!(out, "{:>12}  cases", self.cases)?;
         writeln!(
             out,
-            "{:>12}  plans accepted, by R from 2 to 7: {:?}",
+            "{:>12}  plans accepted, those of forms 1 and 2 by R from 2 to 7: {:?}",
             self.plans,
             &self.responsiveness[2..]
         )?;
+        self.show_ratios(out)?;
         let [several, longest] = self.lasting;
         writeln!(
             out,

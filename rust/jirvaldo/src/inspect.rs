@@ -33,11 +33,41 @@
 //! assert_eq!(view.deque(0).collect::<Vec<_>>(), [0]);
 //! # Ok::<(), jirvaldo::Refusal>(())
 //! ```
+//!
+//! A plan of form 3, whose desire grows by tenths:
+//!
+//! ```
+//! use jirvaldo::inspect::{Growth, View};
+//! use jirvaldo::Job;
+//!
+//! // form 3, 15 tenths, D = 80, L = 1, N = 4; each task is followed by the next one
+//! let plan = [0x37, 0xd0, 0x00, 0x04, 0x03, 0x40, 0x08, 0x00, 0x40, 0x10, 0x00, 0x40, 0x18, 0x00, 0, 0, 0];
+//! let mut job = Job::accept(&plan)?;
+//! assert_eq!(View::of(&job).growth(), Growth::Tenths(15));
+//! for (power, desire) in [(0, 1), (1, 1), (2, 2)] {
+//!     let view = View::of(&job);
+//!     assert_eq!((view.power(), view.desire()), (power, desire)); // 1.5^2 is 2.25
+//!     job.grant(job.desire())?;
+//!     job.tick(&vec![0; desire.into()])?;
+//! }
+//! # Ok::<(), jirvaldo::Refusal>(())
+//! ```
 
 #![forbid(unsafe_code)]
 
 use crate::raw::Memory;
 use crate::{Job, MOST_WORKERS};
+
+/// How the desire of a job grows and falls: the responsiveness (R) of its plan, and the unit. Either way the job has a power, k, which is 0
+/// at first: an inefficient quantum lowers it by one, and an efficient and satisfied one raises it by one as long as the desire is then at
+/// most 64.
+#[derive(Clone, Copy, Debug, PartialEq, Eq)]
+pub enum Growth {
+    /// Forms 1 and 2: the desire is multiplied and divided by R, 2 to 7, so that it is R^k.
+    Factor(u8),
+    /// Form 3: R is so many tenths, 12 to 20, and the desire is the whole part of (tenths / 10)^k.
+    Tenths(u8),
+}
 
 /// A look into a job, which copies nothing. Tasks and workers are numbered from 0; of a number past the last nothing is shown: no
 /// successors, no ticks, an empty deque, not worked.
@@ -66,9 +96,13 @@ impl<'a> View<'a> {
         usize::from(self.word(0) as u16)
     }
 
-    /// The responsiveness (R), 2 to 7.
-    pub fn responsiveness(self) -> u8 {
-        self.word(10) as u8
+    /// How the desire grows, by the responsiveness (R).
+    pub fn growth(self) -> Growth {
+        let responsiveness = self.word(10) as u8;
+        match self.word(18) {
+            0 => Growth::Factor(responsiveness),
+            _ => Growth::Tenths(responsiveness),
+        }
     }
 
     /// The utilization in percent (D), 1 to 100.
@@ -76,7 +110,7 @@ impl<'a> View<'a> {
         self.word(11) as u8
     }
 
-    /// The quantum length in ticks (L), 1 to 65,535.
+    /// The quantum length in ticks (L), 1 to 65,535; in form 3 to 16,383.
     pub fn quantum_length(self) -> u16 {
         self.word(12) as u16
     }
@@ -165,6 +199,11 @@ impl<'a> View<'a> {
         self.word(13) as u8
     }
 
+    /// The power (k): the desire is the whole part of R to this power.
+    pub fn power(self) -> u8 {
+        self.word(19) as u8
+    }
+
     /// Whether any worker was ever granted.
     pub fn started(self) -> bool {
         self.word(14) != 0
@@ -209,15 +248,15 @@ impl<'a> View<'a> {
 /// A plan, copied out of a job.
 #[derive(Clone, Debug, PartialEq, Eq)]
 pub struct Plan {
-    /// The responsiveness (R).
-    pub responsiveness: u8,
+    /// How the desire grows, by the responsiveness (R).
+    pub growth: Growth,
     /// The utilization in percent (D).
     pub utilization: u8,
     /// The quantum length in ticks (L).
     pub quantum_length: u16,
     /// The successors of each task, in the order of the plan's fields.
     pub successors: Vec<Vec<u16>>,
-    /// The ticks that each task lasts, 1 to 255; each is 1 in a plan of form 1.
+    /// The ticks that each task lasts, 1 to 255; each is 1 in a plan of form 1 or 3.
     pub durations: Vec<u8>,
 }
 
@@ -236,6 +275,8 @@ pub struct State {
     pub muggable: Vec<Vec<u16>>,
     /// The desire.
     pub desire: u8,
+    /// The power (k): the desire is the whole part of R to this power.
+    pub power: u8,
     /// The allotment.
     pub allotment: usize,
     /// Whether any worker was ever granted.
@@ -262,7 +303,7 @@ impl Plan {
         let view = View::of(job);
         let tasks = 0..view.tasks();
         Plan {
-            responsiveness: view.responsiveness(),
+            growth: view.growth(),
             utilization: view.utilization(),
             quantum_length: view.quantum_length(),
             successors: tasks.map(|task| view.successors(task).collect()).collect(),
@@ -283,6 +324,7 @@ impl State {
             deques: workers.map(|w| view.deque(w).collect()).collect(),
             muggable: ages.map(|a| view.muggable_deque(a).collect()).collect(),
             desire: view.desire(),
+            power: view.power(),
             allotment: view.allotment(),
             started: view.started(),
             open_ticks: view.open_ticks(),

@@ -8,7 +8,7 @@ use crate::raw::Memory;
 use crate::refusal::{answer, refusal};
 use crate::{Counters, Line, Refusal, Status, LINE_BUFFER};
 
-/// A job: 10,896 bytes of plain data, without pointers. It comes from an accepted plan and is moved by [`grant`](Job::grant),
+/// A job: 10,912 bytes of plain data, without pointers. It comes from an accepted plan and is moved by [`grant`](Job::grant),
 /// [`tick`](Job::tick) and [`run_log`](Job::run_log); each call either is accepted whole or is refused by number and changes nothing.
 ///
 /// A clone is a job of its own: the two go on independently. A job is `Send` and `Sync` and the library keeps no state beside it, so
@@ -22,7 +22,7 @@ pub struct Job {
     memory: Memory,
 }
 
-const _: () = assert!(std::mem::size_of::<Job>() == 10_896);
+const _: () = assert!(std::mem::size_of::<Job>() == 10_912);
 
 /// What a log did to a job.
 #[derive(Clone, Copy, Debug, PartialEq, Eq)]
@@ -36,8 +36,8 @@ pub struct LogRun {
 
 /// A plan becomes a job.
 impl Job {
-    /// The fresh job of a plan: it desires one worker and has none. A task has three bytes in a plan of form 1, and lasts one tick; in form 2
-    /// it has a fourth one, its ticks, 1 to 255.
+    /// The fresh job of a plan: it desires one worker and has none. A task has three bytes in a plan of form 1 or 3, and lasts one tick; in
+    /// form 2 it has a fourth one, its ticks, 1 to 255. Form 3 has R in tenths, 12 to 20, and L of 14 bits.
     ///
     /// # Errors
     /// Refusals 1 to 10, [`Short`](Refusal::Short) to [`LooseEnd`](Refusal::LooseEnd), and 28, [`ZeroTicks`](Refusal::ZeroTicks), say what is
@@ -53,6 +53,10 @@ impl Job {
     /// assert_eq!(Job::accept(&plan)?.status(), Status::Fresh);
     /// plan[8] = 0;
     /// assert_eq!(Job::accept(&plan).err(), Some(Refusal::ZeroTicks));
+    /// let mut plan = [0x36, 0x50, 0x00, 0x08, 0x00, 0, 0, 0]; // one task, and 12 tenths
+    /// assert_eq!(Job::accept(&plan)?.status(), Status::Fresh);
+    /// plan[0] = 0x35; // 10 tenths
+    /// assert_eq!(Job::accept(&plan).err(), Some(Refusal::BadResponsiveness));
     /// # Ok::<(), Refusal>(())
     /// ```
     #[inline]
@@ -113,6 +117,10 @@ impl Job {
 
     /// One tick: each granted worker takes a cycle, in number order. Choice i is the worker from whom worker i steals where it has nothing
     /// else to do; a choice is needed of every worker, read or not. After its L-th tick a quantum closes, and the desire moves.
+    ///
+    /// In forms 1 and 2 the desire is divided by R after an inefficient quantum, and multiplied by it after an efficient and satisfied one
+    /// unless that exceeds 64. In form 3 it is the whole part of (t / 10)^k, with t tenths: k is 0 at first, one less after an inefficient
+    /// quantum, and one more after an efficient and satisfied one as long as the desire is then at most 64.
     ///
     /// A worker that works does one tick of its deque's front task, which stays at the front until its last one; then the task is worked, and
     /// those of its successors that became ready take its place. A deque that is withdrawn or mugged keeps the ticks that are done.
@@ -333,6 +341,9 @@ mod tests {
         refused(&mut job, 7, |j| j.replace(&late));
         let no_ticks = [0x25, 0x40, 0x00, 0x08, 0x00, 0, 0, 0, 0];
         refused(&mut job, 28, |j| j.replace(&no_ticks));
+        let tenths = |high, low| [high, low, 0x00, 0x08, 0x00, 0, 0, 0];
+        refused(&mut job, 3, |j| j.replace(&tenths(0x35, 0xd0))); // 11
+        refused(&mut job, 3, |j| j.replace(&tenths(0x3a, 0xd0))); // 21
         refused(&mut job, 1, |j| j.replace(&[0x15; 4]));
         Ok(())
     }

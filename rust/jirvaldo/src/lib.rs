@@ -2,7 +2,8 @@
 //!
 //! A plan is a task graph in bytes. [`Job::accept`] reads it and makes a [`Job`], or refuses it by number. Then by turns: a
 //! [grant](Job::grant) of at most as many workers as the job [desires](Job::desire), which opens a quantum, and [ticks](Job::tick) until it
-//! closes, L of them. The job is finished when every task is worked. A task lasts one tick in a plan of form 1, 1 to 255 in one of form 2.
+//! closes, L of them. The job is finished when every task is worked. A task lasts one tick in a plan of form 1 or 3, 1 to 255 in one of
+//! form 2.
 //!
 //! ```
 //! use jirvaldo::{Job, Refusal};
@@ -43,6 +44,28 @@
 //! # Ok::<(), Refusal>(())
 //! ```
 //!
+//! In form 3 the desire grows more gently: R is in tenths, 12 to 20, and the desire is the whole part of R to a power. The power is 0 at
+//! first, one less after an inefficient quantum, and one more after an efficient and satisfied one as long as the desire is then at most
+//! 64.
+//!
+//! ```
+//! use jirvaldo::{Job, Refusal};
+//!
+//! // form 3, 15 tenths, D = 80, L = 1, N = 4; each task is followed by the next one
+//! let plan = [0x37, 0xd0, 0x00, 0x04, 0x03, 0x40, 0x08, 0x00, 0x40, 0x10, 0x00, 0x40, 0x18, 0x00, 0, 0, 0];
+//! let mut job = Job::accept(&plan)?;
+//! job.grant(1)?;
+//! job.tick(&[0])?; // the quantum was efficient: 1.5, so the job still desires 1 worker
+//! assert_eq!(job.desire(), 1);
+//! job.grant(1)?;
+//! job.tick(&[0])?; // and now 2.25
+//! assert_eq!(job.desire(), 2);
+//! job.grant(2)?;
+//! job.tick(&[0, 0])?; // one of two workers had something to work on, which is not 80 percent: back to 1.5
+//! assert_eq!(job.desire(), 1);
+//! # Ok::<(), Refusal>(())
+//! ```
+//!
 //! # What is proved and what is not
 //! Every function of the static library is proved to answer and to move the job as the definitions say, for any plan, any calls and any
 //! bytes. This crate adds the Rust types. Its unsafe code is one private module, which lends the library a job's memory; safe code can't
@@ -72,10 +95,10 @@ pub use status::Status;
 /// The most tasks that a plan may have.
 pub const MOST_TASKS: usize = 1024;
 
-/// The size of the longest plan that is accepted: no plan with more bytes is. It is of form 2; the longest of form 1 has 3,077 bytes.
+/// The size of the longest plan that is accepted: no plan with more bytes is. It is of form 2; the longest of form 1 or 3 has 3,077 bytes.
 pub const LONGEST_PLAN: usize = 5 + 4 * MOST_TASKS;
 
-/// The most ticks that a task lasts, in a plan of form 2. In form 1 each lasts one.
+/// The most ticks that a task lasts, in a plan of form 2. In forms 1 and 3 each lasts one.
 pub const LONGEST_TASK: usize = 255;
 
 /// The most workers that a job ever desires.

@@ -10,7 +10,7 @@ use crate::{MOST_TASKS, MOST_WORKERS};
 const ENDS: usize = 4 * MOST_WORKERS;
 /// Five numbers of each task, and the deques' ends.
 const PARTS: usize = 5 * MOST_TASKS + ENDS;
-const WORDS: usize = 18;
+const WORDS: usize = 20;
 
 /// The memory of a job, laid out as in C: `include/jirvaldo.h` has the same parts in the same order.
 #[repr(C)]

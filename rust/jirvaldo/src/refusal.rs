@@ -27,10 +27,10 @@ use std::fmt;
 pub enum Refusal {
     /// 1: the plan has fewer than 5 bytes.
     Short = 1,
-    /// 2: the plan's form is neither 1 nor 2.
+    /// 2: the plan's form is not 1, 2 or 3.
     UnknownForm = 2,
-    /// 3: the plan's R, the responsiveness, is below 2.
-    LowResponsiveness = 3,
+    /// 3: the plan's R, the responsiveness, is below 2, or in form 3 not from 12 to 20 tenths.
+    BadResponsiveness = 3,
     /// 4: the plan's D, the utilization in percent, is not from 1 to 100.
     BadUtilization = 4,
     /// 5: the plan's L, the quantum length, is 0.
@@ -76,7 +76,7 @@ impl Refusal {
     pub const ALL: [Refusal; 21] = [
         Short,
         UnknownForm,
-        LowResponsiveness,
+        BadResponsiveness,
         BadUtilization,
         ZeroQuantumLength,
         WrongLength,
@@ -105,14 +105,16 @@ impl Refusal {
     const fn sentence(self) -> &'static str {
         match self {
             Short => "the plan has fewer than 5 bytes, so its header is not whole",
-            UnknownForm => "the plan's form is neither 1 nor 2",
-            LowResponsiveness => "the plan's R, the responsiveness, is below 2",
+            UnknownForm => "the plan's form is not 1, 2 or 3",
+            BadResponsiveness => {
+                "the plan's R, the responsiveness, is below 2, or in form 3 not from 12 to 20 tenths"
+            }
             BadUtilization => "the plan's D, the utilization in percent, is not from 1 to 100",
             ZeroQuantumLength => {
                 "the plan's L, the quantum length, is 0; a quantum has at least one tick"
             }
             WrongLength => {
-                "the plan is not 5 + 3 * N bytes long in form 1, or 5 + 4 * N in form 2, for its header's N tasks"
+                "the plan is not 5 + 3 * N bytes long in form 1 or 3, or 5 + 4 * N in form 2, for its header's N tasks"
             }
             BadFields => {
                 "a task's successor count is 3, or one of its unused successor fields is not 0"

@@ -1,10 +1,15 @@
 //! Counts which refusals and which branches the generated cases reach.
 
+mod powers;
+
 use std::fmt;
+
+pub use powers::{Powers, Ratios};
 
 use crate::counters::counters_line;
 use crate::form::{self, FORMS};
 use crate::generator::Case;
+use crate::growth::Growth;
 use crate::job::{Cycle, GrantReport, Job, TickReport};
 use crate::label::wording;
 use crate::lasting::Tick;
@@ -19,12 +24,19 @@ use crate::refusal::Refusal;
 pub enum Branch {
     PlanFormOne,
     PlanFormTwo,
+    PlanFormThree,
     PlanMixed,
     PlanLongest,
+    PlanGentleLongest,
     PlanFormZero,
-    PlanFormThree,
+    PlanFormFour,
     PlanFormFifteen,
+    PlanNoTenths,
+    PlanElevenTenths,
+    PlanTwentyOneTenths,
+    PlanMostTenths,
     PlanOtherBody,
+    PlanGentleOtherBody,
     PlanZeroFirst,
     PlanZeroBetween,
     PlanZeroLast,
@@ -69,22 +81,34 @@ pub enum Branch {
     EndDeprived,
     EndOfZero,
     EndBegun,
+    EndGrownSame,
+    EndFallenSame,
 }
 
 use Branch::*;
 
 /// Every branch with what it is.
-pub const BRANCHES: [(Branch, &str); 52] = [
+pub const BRANCHES: [(Branch, &str); 61] = [
     (PlanFormOne, "plan: of form 1"),
     (PlanFormTwo, "plan: of form 2"),
+    (PlanFormThree, "plan: of form 3"),
     (PlanMixed, "plan: tasks of one tick and of several"),
     (PlanLongest, "plan: a task of 255 ticks"),
+    (PlanGentleLongest, "plan: of form 3, quanta of 16,383 ticks"),
     (PlanFormZero, "plan: refused with 2, form 0"),
-    (PlanFormThree, "plan: refused with 2, form 3"),
+    (PlanFormFour, "plan: refused with 2, form 4"),
     (PlanFormFifteen, "plan: refused with 2, form 15"),
+    (PlanNoTenths, "plan: refused with 3, 0 tenths"),
+    (PlanElevenTenths, "plan: refused with 3, 11 tenths"),
+    (PlanTwentyOneTenths, "plan: refused with 3, 21 tenths"),
+    (PlanMostTenths, "plan: refused with 3, 31 tenths"),
     (
         PlanOtherBody,
         "plan: refused with 6, the other form's length",
+    ),
+    (
+        PlanGentleOtherBody,
+        "plan: of form 3, refused with 6, form 2's length",
     ),
     (PlanZeroFirst, "plan: refused with 28, the first task"),
     (PlanZeroBetween, "plan: refused with 28, a task between"),
@@ -145,6 +169,8 @@ pub const BRANCHES: [(Branch, &str); 52] = [
     (EndDeprived, "end: efficient, deprived"),
     (EndOfZero, "end: of a quantum of 0 workers"),
     (EndBegun, "end: of a quantum with a task begun"),
+    (EndGrownSame, "end: a power up, the same desire"),
+    (EndFallenSame, "end: a power down, the same desire"),
 ];
 
 /// How often each thing was reached.
@@ -157,6 +183,7 @@ pub struct Coverage {
     readings: [u64; form::BENT.len()],
     statuses: [u64; 4],
     responsiveness: [u64; 8],
+    ratios: Ratios,
     allotments: [u64; MOST_WORKERS + 1],
 }
 
@@ -170,6 +197,7 @@ impl Default for Coverage {
             readings: [0; form::BENT.len()],
             statuses: [0; 4],
             responsiveness: [0; 8],
+            ratios: Ratios::default(),
             allotments: [0; MOST_WORKERS + 1],
         }
     }
@@ -204,9 +232,14 @@ impl Coverage {
         &self.readings
     }
 
-    /// How often each responsiveness from 0 to 7 was accepted.
+    /// How often each responsiveness from 0 to 7 was accepted in forms 1 and 2.
     pub fn responsiveness(&self) -> &[u64] {
         &self.responsiveness
+    }
+
+    /// What was reached of the ratios of form 3.
+    pub fn ratios(&self) -> &Ratios {
+        &self.ratios
     }
 
     /// How often each allotment from 0 to 64 was granted.
@@ -253,7 +286,10 @@ impl Coverage {
 
     /// Runs a log on a fresh job, and returns how many calls were refused.
     fn cover_calls(&mut self, job: &mut Job, log: &[u8]) -> u64 {
-        add(&mut self.responsiveness, job.plan().responsiveness());
+        match job.plan().growth() {
+            Growth::Factor(r) => add(&mut self.responsiveness, usize::from(r)),
+            growth => self.ratios.cover_plan(growth),
+        }
         let outcome = run_log_with(job, log, |job, _, answer| {
             self.calls += 1;
             match answer {
@@ -287,11 +323,14 @@ impl Coverage {
             Ok(plan) => self.cover_accepted(form, plan),
             Err(Refusal::FormUnknown) => {
                 self.reach(PlanFormZero, form == 0);
-                self.reach(PlanFormThree, form == 3);
+                self.reach(PlanFormFour, form == 4);
                 self.reach(PlanFormFifteen, form == 15);
             }
+            Err(Refusal::ResponsivenessOutOfRange) if form == 3 => self.cover_tenths(bytes),
             Err(Refusal::PlanLengthWrong) => {
-                self.reach(PlanOtherBody, has_other_length(form, bytes));
+                let other = has_other_length(form, bytes);
+                self.reach(PlanOtherBody, other);
+                self.reach(PlanGentleOtherBody, other && form == 3);
             }
             Err(Refusal::TicksZero) => self.cover_zero(bytes),
             Err(_) => (),
@@ -307,8 +346,20 @@ impl Coverage {
         let has = |wanted: fn(u8) -> bool| plan.tasks().iter().any(|task| wanted(task.ticks()));
         self.reach(PlanFormOne, form == 1);
         self.reach(PlanFormTwo, form == 2);
+        self.reach(PlanFormThree, form == 3);
         self.reach(PlanMixed, has(|ticks| ticks == 1) && has(|ticks| ticks > 1));
         self.reach(PlanLongest, has(|ticks| ticks == 255));
+        let longest = plan.quantum_length() == 16_383;
+        self.reach(PlanGentleLongest, form == 3 && longest);
+    }
+
+    /// Counts the tenths of a plan of form 3 that is refused with 3.
+    fn cover_tenths(&mut self, bytes: &[u8]) {
+        let tenths = (bytes[0] & 15) << 1 | bytes[1] >> 7;
+        self.reach(PlanNoTenths, tenths == 0);
+        self.reach(PlanElevenTenths, tenths == 11);
+        self.reach(PlanTwentyOneTenths, tenths == 21);
+        self.reach(PlanMostTenths, tenths == 31);
     }
 
     /// Counts which task of a plan that is refused with 28 has no ticks.
@@ -390,6 +441,14 @@ impl Coverage {
         self.reach(EndOfZero, job.allotment() == 0);
         let mut tasks = job.deques().iter().filter_map(|deque| deque.front());
         self.reach(EndBegun, tasks.any(|&task| job.is_begun(task)));
+        self.ratios.cover_end(job, end);
+        let growth = job.plan().growth();
+        let is_desire =
+            |power: Option<u32>| power.and_then(|p| growth.desire(p)) == Some(job.desire());
+        let (below, above) = (job.power().checked_sub(1), job.power().checked_add(1));
+        self.reach(EndGrownSame, branch == EndGrown && is_desire(below));
+        let fallen = matches!(end, QuantumEnd::Inefficient { .. });
+        self.reach(EndFallenSame, fallen && is_desire(above));
     }
 }
 
@@ -456,6 +515,7 @@ impl fmt::Display for Coverage {
         for (r, count) in self.responsiveness.iter().enumerate().skip(2) {
             writeln!(out, "{count:>10}  plans with responsiveness {r}")?;
         }
+        write!(out, "{}", self.ratios)?;
         let counts = self.allotments.iter();
         let reached = counts.filter(|&&count| count > 0).count();
         writeln!(out, "{reached:>10}  different allotments of 0 to 64")?;
@@ -464,10 +524,12 @@ impl fmt::Display for Coverage {
 }
 
 impl Coverage {
-    /// How many refusals, branches and bent readings were never reached.
+    /// How many refusals, branches, bent readings and powers were never
+    /// reached.
     pub fn missing(&self) -> usize {
         let counts = self.refusals.iter().chain(&self.branches);
         let counts = counts.chain(&self.readings);
-        counts.filter(|&&count| count == 0).count()
+        let missing = counts.filter(|&&count| count == 0).count();
+        missing + self.ratios.missing().len()
     }
 }

@@ -5,9 +5,10 @@ use std::sync::Arc;
 
 use crate::counters::DigitCount;
 use crate::form::Reading;
+use crate::growth::{Level, Pace};
 use crate::lasting::{Event, Lasting, Tick};
 use crate::plan::{read_plan_with, Plan};
-use crate::quantum::{classify, is_efficient, next_desire, QuantumEnd};
+use crate::quantum::{is_efficient, QuantumEnd};
 use crate::refusal::{ask, Refusal};
 use crate::rest::Rest;
 use crate::theft::Theft;
@@ -35,6 +36,8 @@ pub struct Rules {
     pub rest: Rest,
     /// How long a task stays.
     pub lasting: Lasting,
+    /// How the desire of a plan in tenths moves.
+    pub pace: Pace,
 }
 
 impl Default for Rules {
@@ -47,6 +50,7 @@ impl Default for Rules {
             turn: Turn::default(),
             rest: Rest::default(),
             lasting: Lasting::default(),
+            pace: Pace::default(),
         }
     }
 }
@@ -96,7 +100,7 @@ pub struct Job {
     completed: usize,
     deques: Vec<Deque>,
     muggable: VecDeque<Withdrawn>,
-    desire: usize,
+    level: Level,
     quantum: Option<OpenQuantum>,
     quanta_begun: u32,
     work_cycles: u64,
@@ -176,13 +180,14 @@ impl Job {
 
     /// A fresh job: desire 1, nothing granted.
     pub fn new(plan: Plan) -> Job {
+        let rules = Rules::default();
         Job {
+            level: rules.pace.start(plan.growth()),
             left: plan.tasks().iter().map(|task| task.ticks()).collect(),
             plan: Arc::new(plan),
             completed: 0,
             deques: Vec::new(),
             muggable: VecDeque::new(),
-            desire: 1,
             quantum: None,
             quanta_begun: 0,
             work_cycles: 0,
@@ -190,13 +195,22 @@ impl Job {
             steal_cycles: 0,
             successful_steals: 0,
             ever_granted: false,
-            rules: Rules::default(),
+            rules,
         }
     }
 
-    /// The same job, which follows these rules from now on.
+    /// The same job, which follows these rules from now on; where no quantum has
+    /// begun, it starts by them.
     pub fn with_rules(self, rules: Rules) -> Job {
-        Job { rules, ..self }
+        let level = match self.quanta_begun {
+            0 => rules.pace.start(self.plan.growth()),
+            _ => self.level,
+        };
+        Job {
+            rules,
+            level,
+            ..self
+        }
     }
 
     /// The rules that the job keeps.
@@ -249,7 +263,12 @@ impl Job {
 
     /// The desire (document 01: wanted).
     pub fn desire(&self) -> usize {
-        self.desire
+        self.level.desire
+    }
+
+    /// The desire's power (request U14: k), in plans of all forms.
+    pub fn power(&self) -> u32 {
+        self.level.power
     }
 
     /// The allotment (document 01: granted): each worker has one deque. It
@@ -336,7 +355,7 @@ impl Job {
         ask(self.quantum.is_none(), Refusal::QuantumOpen)?;
         let limit = self.rules.most_quanta;
         ask(self.quanta_begun < limit, Refusal::QuantaExhausted)?;
-        ask(allotment <= self.desire, Refusal::GrantAboveDesire)
+        ask(allotment <= self.desire(), Refusal::GrantAboveDesire)
     }
 
     /// Withdraws workers from `allotment` up, or adds workers with empty
@@ -546,12 +565,13 @@ impl Job {
         if self.is_finished() || quantum.ticks < plan.quantum_length() {
             return None;
         }
-        let (r, allotment) = (plan.responsiveness(), self.allotment());
         let (utilization, length) = (plan.utilization(), plan.quantum_length());
+        let allotment = self.allotment();
         let efficient = is_efficient(utilization, length, allotment, quantum.usage);
-        let satisfied = allotment == self.desire;
-        let end = classify(r, self.desire, efficient, satisfied);
-        self.desire = next_desire(r, self.desire, efficient, satisfied);
+        let satisfied = allotment == self.desire();
+        let pace = self.rules.pace;
+        let (end, level) = pace.close(plan.growth(), self.level, efficient, satisfied);
+        self.level = level;
         self.quantum = None;
         Some(end)
     }

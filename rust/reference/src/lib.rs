@@ -7,7 +7,8 @@
 //! plans), [`job`] (grant and tick), [`lasting`] (how long a piece stays),
 //! [`withdrawal`] (which orphan is taken first), [`theft`] (what a steal
 //! takes), [`rest`] (what the workers after the finisher count), [`quantum`]
-//! (round's end), [`log`], [`label`], [`counters`], [`program`].
+//! (round's end), [`growth`] (how it moves the desire), [`log`], [`label`],
+//! [`counters`], [`program`].
 //! [`generator`] makes random plans and logs from a seed and [`coverage`]
 //! counts what they reach. [`stored`] chooses a set of cases to be kept.
 //!
@@ -19,6 +20,7 @@ pub mod counters;
 pub mod coverage;
 pub mod form;
 pub mod generator;
+pub mod growth;
 pub mod job;
 pub mod label;
 pub mod lasting;
@@ -34,13 +36,14 @@ pub mod withdrawal;
 
 pub use counters::{counters_line, counters_text, line_size, ten_numbers, DigitCount};
 pub use form::{Asked, Reading, Ticks};
+pub use growth::{Growth, Level, Pace};
 pub use job::{Cycle, GrantReport, Job, OpenQuantum, Rules, Status, TickReport, MOST_QUANTA};
 pub use label::wording;
 pub use lasting::{Lasting, Tick};
 pub use log::{run_log, run_log_with, Entries, Entry, LogOutcome, Report};
 pub use plan::{read_plan, read_plan_with, Plan, Task};
 pub use program::{program_output, program_output_with, split_input};
-pub use quantum::{is_efficient, next_desire, QuantumEnd};
+pub use quantum::{is_efficient, QuantumEnd};
 pub use refusal::Refusal;
 pub use rest::{Charge, Rest};
 pub use theft::{Share, Theft};

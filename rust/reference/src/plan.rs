@@ -1,6 +1,7 @@
 //! "The plan's bits" and the questions 1 to 10, with 28 of request U9.
 
-use crate::form::{Asked, Reading, TaskBits};
+use crate::form::{at, Asked, Form, Place, Reading, TaskBits};
+use crate::growth::Growth;
 use crate::refusal::{ask, Refusal};
 
 const HEADER_BYTES: usize = 5;
@@ -24,7 +25,7 @@ impl Task {
         &self.predecessors
     }
 
-    /// The ticks that it lasts, 1 to 255; in a plan of form 1 it is one.
+    /// The ticks that it lasts, 1 to 255; in a plan of form 1 or 3 it is one.
     pub fn ticks(&self) -> u8 {
         self.ticks
     }
@@ -33,16 +34,16 @@ impl Task {
 /// An accepted plan. There is no other way to one than [`read_plan`].
 #[derive(Clone, Debug, PartialEq, Eq)]
 pub struct Plan {
-    responsiveness: usize,
+    growth: Growth,
     utilization: u64,
     quantum_length: u32,
     tasks: Vec<Task>,
 }
 
 impl Plan {
-    /// The responsiveness (document 01: R), 2 to 7.
-    pub fn responsiveness(&self) -> usize {
-        self.responsiveness
+    /// The responsiveness (document 01: R): by what the desire grows.
+    pub fn growth(&self) -> Growth {
+        self.growth
     }
 
     /// The utilization in percent (document 01: D), 1 to 100.
@@ -50,7 +51,8 @@ impl Plan {
         self.utilization
     }
 
-    /// The quantum length in ticks (document 01: L), 1 to 65,535.
+    /// The quantum length in ticks (document 01: L), 1 to 65,535; in a plan of
+    /// form 3 at most 16,383.
     pub fn quantum_length(&self) -> u32 {
         self.quantum_length
     }
@@ -66,9 +68,8 @@ impl Plan {
     }
 }
 
-/// The fields of the first 40 bits.
+/// The fields of the first 40 bits, after the form.
 struct Header {
-    form: u64,
     responsiveness: u64,
     utilization: u64,
     quantum_length: u64,
@@ -83,15 +84,17 @@ pub fn read_plan(bytes: &[u8]) -> Result<Plan, Refusal> {
 /// Like [`read_plan`], by a rule that may be bent.
 pub fn read_plan_with(bytes: &[u8], reading: Reading) -> Result<Plan, Refusal> {
     let (head, body) = split(bytes, HEADER_BYTES).ok_or(Refusal::PlanTooShort)?;
-    let header = header_fields(head);
-    let form = reading.form(header.form).ok_or(Refusal::FormUnknown)?;
-    ask_header(&header)?;
+    let word = big_endian(head);
+    let form = reading.form(field(word, FORM));
+    let form = form.ok_or(Refusal::FormUnknown)?;
+    let header = header_fields(word, form);
+    ask_header(&header, form)?;
     let length = form.task_bytes * header.task_count;
     ask(body.len() == length, Refusal::PlanLengthWrong)?;
     let entries = body.chunks_exact(form.task_bytes);
     let entries: Vec<TaskBits> = entries.map(|bytes| reading.task(form, bytes)).collect();
     Ok(Plan {
-        responsiveness: header.responsiveness as usize,
+        growth: header.growth(form),
         utilization: header.utilization,
         quantum_length: header.quantum_length as u32,
         tasks: read_tasks(&entries, reading.asked)?,
@@ -135,27 +138,41 @@ pub(crate) fn big_endian(bytes: &[u8]) -> u64 {
     bytes.iter().fold(0, |word, &b| word << 8 | u64::from(b))
 }
 
-/// The `width` bits that stand `below` bits above the lowest one.
-fn field(word: u64, below: u32, width: u32) -> u64 {
-    (word >> below) & ((1 << width) - 1)
+/// The field of a word at a place.
+fn field(word: u64, place: Place) -> u64 {
+    (word >> place.below) & ((1 << place.width) - 1)
 }
 
-/// Form 4 bits, responsiveness 3, utilization 7, quantum length 16, number of
-/// tasks less one 10.
-fn header_fields(head: &[u8]) -> Header {
-    let word = big_endian(head);
+const FORM: Place = at(4, 36);
+const COUNT_LESS_ONE: Place = at(10, 0);
+
+/// The fields that the form says.
+fn header_fields(word: u64, form: Form) -> Header {
     Header {
-        form: field(word, 36, 4),
-        responsiveness: field(word, 33, 3),
-        utilization: field(word, 26, 7),
-        quantum_length: field(word, 10, 16),
-        task_count: field(word, 0, 10) as usize + 1,
+        responsiveness: field(word, form.layout.responsiveness),
+        utilization: field(word, form.layout.utilization),
+        quantum_length: field(word, form.layout.quantum_length),
+        task_count: field(word, COUNT_LESS_ONE) as usize + 1,
+    }
+}
+
+impl Header {
+    fn growth(&self, form: Form) -> Growth {
+        let responsiveness = self.responsiveness as u8;
+        if form.in_tenths {
+            Growth::Tenths(responsiveness)
+        } else {
+            Growth::Factor(responsiveness)
+        }
     }
 }
 
 /// Questions 3 to 5.
-fn ask_header(header: &Header) -> Result<(), Refusal> {
-    ask(header.responsiveness >= 2, Refusal::ResponsivenessTooSmall)?;
+fn ask_header(header: &Header, form: Form) -> Result<(), Refusal> {
+    ask(
+        (form.least..=form.most).contains(&header.responsiveness),
+        Refusal::ResponsivenessOutOfRange,
+    )?;
     ask(
         (1..=100).contains(&header.utilization),
         Refusal::UtilizationOutOfRange,
@@ -166,8 +183,8 @@ fn ask_header(header: &Header) -> Result<(), Refusal> {
 /// One task's 24 bits: successor count 2, first 11, second 11. The used fields,
 /// and question 7.
 fn named_successors(word: u64) -> Result<Vec<u16>, Refusal> {
-    let fields = [field(word, 11, 11) as u16, field(word, 0, 11) as u16];
-    let used_count = field(word, 22, 2) as usize;
+    let fields = [at(11, 11), at(11, 0)].map(|place| field(word, place) as u16);
+    let used_count = field(word, at(2, 22)) as usize;
     let (used, unused) = split(&fields, used_count).ok_or(Refusal::SuccessorCountWrong)?;
     ask(unused.iter().all(|&f| f == 0), Refusal::SuccessorCountWrong)?;
     Ok(used.to_vec())

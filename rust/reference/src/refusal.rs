@@ -9,7 +9,7 @@ use std::fmt;
 pub enum Refusal {
     PlanTooShort = 1,
     FormUnknown = 2,
-    ResponsivenessTooSmall = 3,
+    ResponsivenessOutOfRange = 3,
     UtilizationOutOfRange = 4,
     QuantumLengthZero = 5,
     PlanLengthWrong = 6,
@@ -39,7 +39,7 @@ impl Refusal {
     pub const ALL: [Refusal; 23] = [
         PlanTooShort,
         FormUnknown,
-        ResponsivenessTooSmall,
+        ResponsivenessOutOfRange,
         UtilizationOutOfRange,
         QuantumLengthZero,
         PlanLengthWrong,
@@ -71,8 +71,10 @@ impl Refusal {
     pub fn sentence(self) -> &'static str {
         match self {
             PlanTooShort => "the plan has fewer than 5 bytes",
-            FormUnknown => "the plan's form is neither 1 nor 2",
-            ResponsivenessTooSmall => "the responsiveness is below 2",
+            FormUnknown => "the plan's form is not 1, 2 or 3",
+            ResponsivenessOutOfRange => {
+                "the responsiveness is below 2, or in form 3 not 12 to 20 tenths"
+            }
             UtilizationOutOfRange => "the utilization is not from 1 to 100 percent",
             QuantumLengthZero => "the quantum length is 0",
             PlanLengthWrong => "the plan's length does not fit its form and number of tasks",

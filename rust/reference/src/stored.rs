@@ -2,15 +2,17 @@
 //! runs them one after the other. A case is the input's size in three bytes,
 //! the input, the output's size in one byte, and the output.
 
+mod gentle;
 mod lasting;
 
+use gentle::gentle;
 use lasting::lasted;
 
 use crate::generator::edges::edge_plans;
 use crate::generator::graph::{graph, Shape, MOST_TASKS};
 use crate::generator::logs::{guided_log, Grants, Style, Writer, CHOICES, ENDINGS, GRANTS};
 use crate::generator::plans::{wide_draft, Draft};
-use crate::generator::{cases, Random};
+use crate::generator::{older_cases, Random};
 use crate::job::{Job, MOST_QUANTA};
 use crate::plan::{big_endian, split};
 use crate::program::{program_output, MOST_INPUT};
@@ -36,7 +38,8 @@ const SHAPES: [Shape; 5] = [
     Shape::Tangled { width: 12 },
 ];
 
-/// The set of a seed: made cases, generated ones, and the longest two.
+/// The set of a seed: made cases, generated ones, the longest two, and those of
+/// plans in tenths.
 pub fn stored_set(seed: u64) -> Vec<u8> {
     let mut random = Random::new(seed);
     let mut set = Vec::new();
@@ -55,7 +58,7 @@ pub fn stored_set(seed: u64) -> Vec<u8> {
     for input in made.concat() {
         store(&mut set, &input);
     }
-    let small = cases(seed).filter(|case| case.input.len() <= SMALL);
+    let small = older_cases(seed).filter(|case| case.input.len() <= SMALL);
     for case in small {
         store(&mut set, &case.input);
         if set.len() >= ENOUGH {
@@ -65,6 +68,9 @@ pub fn stored_set(seed: u64) -> Vec<u8> {
     for (size, output) in [(MOST_INPUT, "2"), (MOST_INPUT + 1, "refused")] {
         store(&mut set, &long(seed, size, output));
     }
+    for input in gentle(seed) {
+        store(&mut set, &input);
+    }
     set
 }
 
@@ -72,7 +78,7 @@ pub fn stored_set(seed: u64) -> Vec<u8> {
 /// held at the end takes the calls that fill the input up, until its quanta
 /// are spent.
 fn long(seed: u64, size: usize, output: &str) -> Vec<u8> {
-    let mut inputs = cases(seed).map(|case| case.input);
+    let mut inputs = older_cases(seed).map(|case| case.input);
     let fits = |input: &Vec<u8>| input.len() == size && program_output(input).starts_with(output);
     inputs.find(fits).unwrap_or_default()
 }
@@ -97,11 +103,13 @@ fn bare() -> Vec<Vec<u8>> {
     short.into_iter().chain(broken).collect()
 }
 
+/// The log of document 01's example 1.
+const EXAMPLE_LOG: [u8; 12] = [1, 0x81, 0, 0x81, 0, 2, 0x82, 0, 0, 0x82, 0, 0];
+
 /// The plans at the edge of each question, each with example 1's log.
 fn edges() -> Vec<Vec<u8>> {
-    let log = [1, 0x81, 0, 0x81, 0, 2, 0x82, 0, 0, 0x82, 0, 0];
     let plans = edge_plans().into_iter();
-    plans.map(|plan| input(&plan, &log)).collect()
+    plans.map(|plan| input(&plan, &EXAMPLE_LOG)).collect()
 }
 
 /// A chain of three tasks with L = 1 around the last quantum that may begin. A

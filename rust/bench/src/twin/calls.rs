@@ -2,9 +2,29 @@
 
 use super::{Job, Numbers, Tables, SIZES, WORKERS};
 
-/// The largest power of R that is at most 64, for R = 2 to 7.
-const TOP_DESIRES: [u8; 6] = [64, 27, 64, 25, 36, 49];
 const MOST_QUANTA: u16 = 4_096;
+/// The desires by responsiveness and power: the whole parts of R^k up to 64, of R = 2 to 7 and, at 12 to 20, of 1.2 to 2.0. Behind them are
+/// zeros.
+const DESIRES: [[u8; 32]; 32] = desires();
+/// The bits of an index into these, which then needs no check.
+const INDEX: u8 = 31;
+
+const fn desires() -> [[u8; 32]; 32] {
+    let mut desires = [[0; 32]; 32];
+    let mut responsiveness = 2;
+    while responsiveness <= 20 {
+        let unit = if responsiveness < 12 { 1 } else { 10 };
+        let (mut above, mut below, mut power) = (1u128, 1u128, 0);
+        while above / below <= WORKERS as u128 {
+            desires[responsiveness][power] = (above / below) as u8;
+            above *= responsiveness as u128;
+            below *= unit;
+            power += 1;
+        }
+        responsiveness += 1;
+    }
+    desires
+}
 
 impl Job {
     /// A grant of any number of workers; refused with 11 to 14.
@@ -192,12 +212,16 @@ impl Numbers {
     fn close_quantum(&mut self) {
         let owed =
             u64::from(self.utilization) * u64::from(self.quantum_length) * u64::from(self.workers);
+        let row = &DESIRES[usize::from(self.responsiveness & INDEX)];
+        let desire = |power: u8| row[usize::from(power & INDEX)];
         if 100 * self.usage < owed {
-            self.desire /= self.responsiveness;
+            self.power -= 1;
+            self.desire = desire(self.power);
         } else if self.workers == self.desire {
-            let top = TOP_DESIRES[usize::from(self.responsiveness) - 2];
-            if self.desire != top {
-                self.desire *= self.responsiveness;
+            let next = desire(self.power + 1);
+            if next != 0 {
+                self.power += 1;
+                self.desire = next;
             }
         }
         self.is_open = false;

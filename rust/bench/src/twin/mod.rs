@@ -5,8 +5,8 @@
 //! - a task number in `first`, `second`, `ends` or `next` is below 1,024: acceptance checks the first two, and the others hold only those;
 //! - `workers` and `desire` are at most 64, `head` is below 64, `waiting` is at most 64.
 //!
-//! A task has its ticks left in `left`, and is worked where none are. In a plan of form 1 a task's first tick is its last, so that a tick of
-//! such a job does not ask for it.
+//! A task has its ticks left in `left`, and is worked where none are. In a plan of form 1 or 3 a task's first tick is its last, so that a
+//! tick of such a job does not ask for it. The desire is looked up by `responsiveness` and `power`, in plans of all forms.
 //!
 //! The fields are private, so nothing else can break them.
 
@@ -56,9 +56,11 @@ struct Numbers {
     ticks: u16,
     begun: u16,
     workers: u8,
+    /// R, 2 to 7, or its tenths, 12 to 20.
     responsiveness: u8,
     utilization: u8,
     desire: u8,
+    power: u8,
     started: bool,
     is_open: bool,
     is_lasting: bool,
@@ -72,6 +74,7 @@ pub struct View {
     pub deques: Vec<Vec<u16>>,
     pub muggable: Vec<Vec<u16>>,
     pub desire: usize,
+    pub power: u32,
     pub open_quantum: Option<(u32, u64)>,
     pub quanta_begun: u32,
 }
@@ -123,6 +126,7 @@ impl Job {
                 .map(|age| self.deque(ring(age)))
                 .collect(),
             desire: usize::from(numbers.desire),
+            power: u32::from(numbers.power),
             open_quantum: if numbers.is_open {
                 Some((u32::from(numbers.ticks), numbers.usage))
             } else {

@@ -5,7 +5,7 @@ use std::mem::MaybeUninit;
 use super::{Job, Numbers, MOST_TASKS};
 
 const HEADER_BYTES: usize = 5;
-/// The bytes of a task in form 1, and in form 2, where the last one is its ticks.
+/// The bytes of a task in forms 1 and 3, and in form 2, where the last one is its ticks.
 const SHORT: usize = 3;
 const LONG: usize = 4;
 
@@ -38,17 +38,22 @@ fn read_header(plan: &[u8]) -> Result<Header, u8> {
     }
     let high = u32::from_be_bytes([plan[0], plan[1], plan[2], plan[3]]);
     let form = high >> 28;
+    // the place of D, the bits of L and R, the least and the most R
+    let (place, long, wide, least, most) = match form {
+        3 => (16, 0x3fff, 31, 12, 20),
+        _ => (18, 0xffff, 7, 2, 7),
+    };
     let header = Header {
         is_lasting: form == 2,
-        responsiveness: (high >> 25 & 7) as u8,
-        utilization: (high >> 18 & 127) as u8,
-        quantum_length: (high >> 2) as u16,
+        responsiveness: (high >> (place + 7) & wide) as u8,
+        utilization: (high >> place & 127) as u8,
+        quantum_length: (high >> 2 & long) as u16,
         tasks: ((high & 3) << 8 | u32::from(plan[4])) as usize + 1,
     };
     let task_bytes = if header.is_lasting { LONG } else { SHORT };
-    if form != 1 && form != 2 {
+    if form.wrapping_sub(1) >= 3 {
         Err(2)
-    } else if header.responsiveness < 2 {
+    } else if header.responsiveness < least || header.responsiveness > most {
         Err(3)
     } else if header.utilization.wrapping_sub(1) >= 100 {
         Err(4)

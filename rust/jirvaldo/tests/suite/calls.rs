@@ -3,7 +3,7 @@
 use jirvaldo::inspect::State;
 use jirvaldo::{Job, Refusal, MOST_QUANTA};
 
-use super::{chain, hex, job, plan, plan_a};
+use super::{chain, hex, job, plan_a, wide};
 
 /// The call is refused with this number and leaves the state as it was.
 fn refused(job: &mut Job, number: u8, call: impl FnOnce(&mut Job) -> Result<(), Refusal>) {
@@ -78,20 +78,9 @@ fn grants_of_any_number() {
     assert_eq!((job.allotment(), job.desire()), (0, 1));
 }
 
-/// A tree of forks, 511 tasks, then a chain of joins: wide enough that the desire reaches 64.
-fn wide() -> Job {
-    let mut tasks: Vec<Vec<u32>> = (0..255).map(|t| vec![2 * t + 1, 2 * t + 2]).collect();
-    tasks.push(vec![511]);
-    tasks.extend((1..256).map(|leaf| vec![510 + leaf]));
-    tasks.extend((0..254).map(|joined| vec![512 + joined]));
-    tasks.push(vec![]);
-    let lists: Vec<&[u32]> = tasks.iter().map(Vec::as_slice).collect();
-    job(&plan(2, 1, 1, &lists))
-}
-
 #[test]
 fn ticks_of_any_size() {
-    let mut job = wide();
+    let mut job = job(&wide(1));
     while job.desire() < 64 {
         let workers = job.desire();
         assert_eq!(job.grant(workers), Ok(()));

@@ -54,8 +54,10 @@ fn limits() {
         let found = HEADER.lines().filter(|line| line.starts_with(&said));
         assert_eq!(found.count(), 1, "{said}");
     }
-    let size = format!("    JIRVALDO_JOB_SIZE = {} ", std::mem::size_of::<Job>());
-    assert!(HEADER.lines().any(|line| line.starts_with(&size)));
+    let size = std::mem::size_of::<Job>();
+    let said = format!("    JIRVALDO_JOB_SIZE = {size} ");
+    assert!(HEADER.lines().any(|line| line.starts_with(&said)));
+    assert!(HEADER.contains(&format!("jirvaldo_job_has_{size}_bytes[")));
     let thousands = format!("{},{:03} quanta", MOST_QUANTA / 1000, MOST_QUANTA % 1000);
     assert!(Refusal::QuantaSpent.to_string().starts_with(&thousands));
 }

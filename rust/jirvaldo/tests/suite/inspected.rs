@@ -1,6 +1,6 @@
 //! The look into a job's memory.
 
-use jirvaldo::inspect::{Plan, State, View};
+use jirvaldo::inspect::{Growth, Plan, State, View};
 
 use super::{hex, job, plan, plan_a, ONE_TASK};
 
@@ -10,7 +10,7 @@ fn a_fresh_job() {
     let state = State::of(&job(&plan(7, 33, 65_535, &tasks)));
     let fresh = State {
         plan: Plan {
-            responsiveness: 7,
+            growth: Growth::Factor(7),
             utilization: 33,
             quantum_length: 65_535,
             successors: vec![vec![2, 1], vec![3], vec![3], vec![]],
@@ -21,6 +21,7 @@ fn a_fresh_job() {
         deques: vec![],
         muggable: vec![],
         desire: 1,
+        power: 0,
         allotment: 0,
         started: false,
         open_ticks: None,

@@ -2,6 +2,7 @@
 
 mod calls;
 mod examples;
+mod gentle;
 mod header;
 mod inspected;
 mod lasting;
@@ -47,13 +48,39 @@ fn lasting(plan: &[u8], ticks: &[u8]) -> Vec<u8> {
     bytes
 }
 
+/// A plan's bytes in form 3, from those in form 1 and the tenths of R.
+fn gentle(plan: &[u8], tenths: u64) -> Vec<u8> {
+    let header = plan[..5]
+        .iter()
+        .fold(0, |bits, &byte| bits << 8 | u64::from(byte));
+    let (utilization, length_and_count) = (header >> 26 & 127, header & 0xff_ffff);
+    let header: u64 = 3 << 36 | tenths << 31 | utilization << 24 | length_and_count;
+    [&header.to_be_bytes()[3..], &plan[5..]].concat()
+}
+
 /// A chain of that many tasks, with L = 1.
 fn chain(count: u32) -> Vec<u8> {
+    chain_of(80, count)
+}
+
+/// A chain of that many tasks, with this D and L = 1.
+fn chain_of(utilization: u64, count: u32) -> Vec<u8> {
     let after: Vec<Vec<u32>> = (1..=count)
         .map(|t| if t < count { vec![t] } else { vec![] })
         .collect();
     let tasks: Vec<&[u32]> = after.iter().map(Vec::as_slice).collect();
-    plan(2, 80, 1, &tasks)
+    plan(2, utilization, 1, &tasks)
+}
+
+/// A tree of forks, 511 tasks, then a chain of joins, with this D and L = 1: wide enough that the desire reaches 64.
+fn wide(utilization: u64) -> Vec<u8> {
+    let mut tasks: Vec<Vec<u32>> = (0..255).map(|t| vec![2 * t + 1, 2 * t + 2]).collect();
+    tasks.push(vec![511]);
+    tasks.extend((1..256).map(|leaf| vec![510 + leaf]));
+    tasks.extend((0..254).map(|joined| vec![512 + joined]));
+    tasks.push(vec![]);
+    let lists: Vec<&[u32]> = tasks.iter().map(Vec::as_slice).collect();
+    plan(2, utilization, 1, &lists)
 }
 
 /// A task followed by two, and these by one.

@@ -3,7 +3,7 @@
 use jirvaldo::inspect::State;
 use jirvaldo::{Refusal, LONGEST_PLAN};
 
-use super::{chain, hex, job, lasting, number, plan, plan_a, DIAMOND, PLAN_A};
+use super::{chain, gentle, hex, job, lasting, number, plan, plan_a, DIAMOND, PLAN_A};
 
 /// Plan A with other bytes from a place on.
 fn changed(place: usize, bytes: &[u8]) -> Vec<u8> {
@@ -17,7 +17,7 @@ fn every_plan_refusal() {
     assert_eq!(number(&[]), 1);
     assert_eq!(number(&hex("15 40 00 08")), 1);
     assert_eq!(number(&changed(0, &[0x05])), 2);
-    assert_eq!(number(&changed(0, &[0x35])), 2);
+    assert_eq!(number(&changed(0, &[0x45])), 2);
     assert_eq!(number(&changed(0, &[0xf5])), 2);
     assert_eq!(number(&plan(1, 80, 2, &DIAMOND)), 3);
     assert_eq!(number(&plan(2, 0, 2, &DIAMOND)), 4);
@@ -60,6 +60,41 @@ fn every_plan_refusal_of_form_2() {
     }
 }
 
+/// Plan A in form 3, with 15 tenths.
+const GENTLE_A: &str = "37 d0 00 08 03  80 08 02  40 18 00  40 18 00  00 00 00";
+
+#[test]
+fn every_plan_refusal_of_form_3() {
+    let sound = |tasks: &[&[u32]]| gentle(&plan(2, 80, 2, tasks), 15);
+    assert_eq!(sound(&DIAMOND), hex(GENTLE_A));
+    assert_eq!(number(&hex(GENTLE_A)), 0);
+    assert_eq!(number(&hex("37 d0 00 08")), 1);
+    assert_eq!(number(&gentle(&plan(2, 0, 2, &DIAMOND), 15)), 4);
+    assert_eq!(number(&gentle(&plan(2, 101, 2, &DIAMOND), 15)), 4);
+    assert_eq!(number(&gentle(&plan(2, 127, 2, &DIAMOND), 15)), 4);
+    assert_eq!(number(&gentle(&plan(2, 80, 0, &DIAMOND), 15)), 5);
+    assert_eq!(number(&hex(GENTLE_A)[..16]), 6);
+    assert_eq!(number(&[&hex(GENTLE_A)[..], &[0]].concat()), 6);
+    let mut unused = hex(GENTLE_A);
+    unused[16] = 1;
+    assert_eq!(number(&unused), 7);
+    assert_eq!(number(&sound(&[&[1, 1], &[2], &[3], &[]])), 8);
+    assert_eq!(number(&sound(&[&[1], &[3], &[3], &[]])), 9);
+    assert_eq!(number(&sound(&[&[1, 2], &[], &[3], &[]])), 10);
+}
+
+/// 12 to 20 pass; all others of five bits are refused, before a wrong D is.
+#[test]
+fn the_tenths_of_form_3() {
+    for tenths in 0..32 {
+        let passes = (12..=20).contains(&tenths);
+        let answers = if passes { (0, 4) } else { (3, 3) };
+        let (sound, no_utilization) = (hex(PLAN_A), plan(2, 0, 2, &DIAMOND));
+        let number = |plan: &[u8]| number(&gentle(plan, tenths));
+        assert_eq!((number(&sound), number(&no_utilization)), answers);
+    }
+}
+
 /// 28 comes after 7 and 8 of its own task, and before those of the next one; after 6, and before 9 and 10.
 #[test]
 fn the_place_of_28() {
@@ -88,6 +123,8 @@ fn the_length_is_the_forms_own() {
     assert_eq!(number(&long[..20]), 6);
     assert_eq!(number(&long[..17]), 6);
     assert_eq!(number(&[&long[..], &[1]].concat()), 6);
+    assert_eq!(number(&gentle(&short, 12)), 0);
+    assert_eq!(number(&[&gentle(&short, 12)[..5], &long[5..]].concat()), 6);
 }
 
 #[test]
@@ -95,6 +132,10 @@ fn edges_of_the_fields() {
     for responsiveness in 2..=7 {
         assert_eq!(number(&plan(responsiveness, 1, 65_535, &DIAMOND)), 0);
         assert_eq!(number(&plan(responsiveness, 100, 1, &DIAMOND)), 0);
+    }
+    for tenths in 12..=20 {
+        assert_eq!(number(&gentle(&plan(2, 1, 16_383, &DIAMOND), tenths)), 0);
+        assert_eq!(number(&gentle(&plan(2, 100, 1, &DIAMOND), tenths)), 0);
     }
     assert_eq!(number(&plan(2, 80, 2, &[&[2, 1], &[3], &[3], &[]])), 0);
 }
@@ -133,6 +174,20 @@ fn the_smallest_and_the_largest_plan_of_form_2() {
 }
 
 #[test]
+fn the_smallest_and_the_largest_plan_of_form_3() {
+    assert_eq!(number(&gentle(&chain(1), 12)), 0);
+    let mut longest = gentle(&chain(1024), 20);
+    assert_eq!(longest.len(), 3077);
+    let state = State::of(&job(&longest));
+    assert_eq!(state.plan.successors[1022], [1023]);
+    assert_eq!(state.plan.durations, [1; 1024]);
+    assert_eq!(number(&longest[..3076]), 6);
+    longest.push(0);
+    assert_eq!(number(&longest), 6);
+    assert_eq!(number(&vec![0x36; 1 << 20]), 6);
+}
+
+#[test]
 fn a_refused_replacement_leaves_the_old_job() {
     let mut job = plan_a();
     assert_eq!(job.grant(1), Ok(()));
@@ -142,6 +197,11 @@ fn a_refused_replacement_leaves_the_old_job() {
     let late = lasting(&chain(1024), &[[255; 1023].as_slice(), &[0]].concat());
     assert_eq!(job.replace(&late), Err(Refusal::ZeroTicks));
     assert_eq!(State::of(&job), before);
+    for tenths in [11, 21] {
+        let answer = job.replace(&gentle(&chain(1024), tenths));
+        assert_eq!(answer, Err(Refusal::BadResponsiveness));
+        assert_eq!(State::of(&job), before);
+    }
     assert_eq!(job.replace(&chain(1024)), Ok(()));
     assert_eq!(job.counters(0).tasks, 1024);
 }

@@ -1,8 +1,8 @@
 //! Whole cases: an input of the program, and the same plan and log apart.
 
 use super::damage::damaged_plan;
-use super::logs::{blind_log, guided_log, marathon_log, style};
-use super::plans::{marathon_draft, sound_draft};
+use super::logs::{blind_log, guided_log, marathon_log, style_for};
+use super::plans::{gentle_draft, gentle_marathon_draft, marathon_draft, sound_draft, Draft};
 use super::random::Random;
 use crate::job::Job;
 use crate::program::{split_input, MOST_INPUT};
@@ -44,12 +44,45 @@ enum Kind {
     Noise,
 }
 
-/// The endless row of cases of a seed.
+/// How the plans of a row of cases are drawn.
+struct Drawn {
+    sound: fn(&mut Random) -> Draft,
+    marathon: fn(&mut Random) -> Draft,
+}
+
+/// The endless row of cases of a seed: after two of plans of forms 1 and 2 comes
+/// one of form 3.
 pub fn cases(seed: u64) -> impl Iterator<Item = Case> {
+    let (mut older, mut gentle) = (older_cases(seed), gentle_cases(seed));
+    (0usize..).filter_map(move |place| match place % 3 {
+        2 => gentle.next(),
+        _ => older.next(),
+    })
+}
+
+/// Those of forms 1 and 2 alone.
+pub fn older_cases(seed: u64) -> impl Iterator<Item = Case> {
+    let drawn = Drawn {
+        sound: sound_draft,
+        marathon: marathon_draft,
+    };
+    row(seed, drawn)
+}
+
+/// Those of form 3 alone.
+pub fn gentle_cases(seed: u64) -> impl Iterator<Item = Case> {
+    let drawn = Drawn {
+        sound: gentle_draft,
+        marathon: gentle_marathon_draft,
+    };
+    row(!seed, drawn)
+}
+
+fn row(seed: u64, drawn: Drawn) -> impl Iterator<Item = Case> {
     let mut random = Random::new(seed);
     (0usize..).map(move |index| {
         let mut own = Random::new(random.next_u64());
-        case(&mut own, index)
+        case(&mut own, index, &drawn)
     })
 }
 
@@ -67,11 +100,11 @@ fn kind(random: &mut Random, index: usize) -> Kind {
     }
 }
 
-fn case(random: &mut Random, index: usize) -> Case {
+fn case(random: &mut Random, index: usize, drawn: &Drawn) -> Case {
     let kind = kind(random, index);
-    let mut draft = sound_draft(random);
+    let mut draft = (drawn.sound)(random);
     if kind == Kind::Marathon {
-        draft = marathon_draft(random);
+        draft = (drawn.marathon)(random);
     }
     let plan = match kind {
         Kind::Damaged => damaged_plan(random, &draft),
@@ -96,7 +129,7 @@ fn log(random: &mut Random, kind: Kind, plan: &[u8]) -> Vec<u8> {
         (Kind::Marathon, Ok(job)) => marathon_log(random, job),
         (Kind::Blind, _) | (_, Err(_)) => blind_log(random, length),
         (_, Ok(job)) => {
-            let style = style(random);
+            let style = style_for(random, &job);
             guided_log(random, job, &style)
         }
     }

@@ -6,6 +6,9 @@ use super::random::Random;
 
 /// A damaged plan of any kind.
 pub fn damaged_plan(random: &mut Random, draft: &Draft) -> Vec<u8> {
+    if draft.has_tenths {
+        return damaged_gentle(random, draft);
+    }
     match random.below(16) {
         0 | 1 => flipped(random, draft),
         2 | 3 => damaged_twice(random, draft),
@@ -34,7 +37,8 @@ fn damaged(random: &mut Random, draft: &Draft, aim: u8) -> Vec<u8> {
     let mut draft = draft.clone();
     let (task, count) = (random.below(draft.tasks.len()), draft.tasks.len());
     match aim {
-        2 => draft.form = *random.pick(&[0, 3, 3, 9, 15, 15]).unwrap_or(&0),
+        2 => draft.form = *random.pick(&[0, 4, 4, 9, 15, 15]).unwrap_or(&0),
+        3 if draft.has_tenths => draft.responsiveness = wrong_tenths(random),
         3 => draft.responsiveness = random.below(2) as u64,
         4 => draft.utilization = *random.pick(&[0, 101, 102, 127]).unwrap_or(&0),
         5 => draft.quantum_length = 0,
@@ -52,6 +56,48 @@ fn damaged(random: &mut Random, draft: &Draft, aim: u8) -> Vec<u8> {
         _ => (),
     }
     bytes
+}
+
+/// A damaged plan of form 3, most often in its tenths.
+fn damaged_gentle(random: &mut Random, draft: &Draft) -> Vec<u8> {
+    match random.below(16) {
+        0 | 1 => flipped(random, draft),
+        2 => other_body(draft),
+        3 => other_header(random, draft),
+        4..=8 => damaged(random, draft, 3),
+        9..=11 => {
+            let mut draft = draft.clone();
+            draft.responsiveness = wrong_tenths(random);
+            damaged_again(random, &draft)
+        }
+        _ => damaged_again(random, draft),
+    }
+}
+
+/// Damage of any kind but the tenths' and that of form 2.
+fn damaged_again(random: &mut Random, draft: &Draft) -> Vec<u8> {
+    let aim = random.pick(&[1, 2, 4, 5, 6, 7, 8, 9, 10]);
+    let aim = aim.copied().unwrap_or(1);
+    damaged(random, draft, aim)
+}
+
+/// Tenths that no plan has, the nearest ones most often.
+fn wrong_tenths(random: &mut Random) -> u64 {
+    let (low, high) = (random.below(12) as u64, random.between(21, 31) as u64);
+    let tenths = [0, 2, 10, 11, 11, 11, 21, 21, 21, 22, 31, low, high];
+    *random.pick(&tenths).unwrap_or(&0)
+}
+
+/// The header of form 3 under the number of form 1, or the other way round.
+fn other_header(random: &mut Random, draft: &Draft) -> Vec<u8> {
+    let mut draft = draft.clone();
+    if random.chance(128) {
+        draft.form = 1;
+    } else {
+        draft.has_tenths = false;
+        draft.responsiveness = random.between(2, 7) as u64;
+    }
+    draft.bytes()
 }
 
 /// Damages a draft twice, so that the order of the questions matters.

@@ -1,14 +1,29 @@
 //! Plans at the edge of each question: Plan A with one thing changed, to the
 //! last value that passes or to the first that does not.
 
-use super::plans::{Draft, DraftTask};
+use super::plans::{Draft, DraftTask, MOST_GENTLE_LENGTH};
 
-/// The plans of form 1 and of form 2.
+/// The plans of forms 1 and 2.
 pub fn edge_plans() -> Vec<Vec<u8>> {
     let old = edited(&plan_a(), &EDITS);
     let new = edited(&lasting_plan_a(), &LASTING_EDITS);
     let plans = [old, new, every_form(), zero_and_wrong(), zero_and_loose()];
     plans.concat()
+}
+
+/// The plans of form 3: every number of tenths, the edits, and tenths just
+/// outside the ratios together with what a later question refuses.
+pub fn gentle_edge_plans() -> Vec<Vec<u8>> {
+    let tenths = (0..32).map(|tenths| plan_a().gentle(tenths).bytes());
+    let later = GENTLE_EDITS.iter().zip([11, 21].into_iter().cycle());
+    let later = later.map(|(edit, tenths)| {
+        let mut draft = gentle_plan_a();
+        edit(&mut draft);
+        draft.responsiveness = tenths;
+        draft.bytes()
+    });
+    let edits = edited(&gentle_plan_a(), &GENTLE_EDITS);
+    tenths.chain(edits).chain(later).collect()
 }
 
 /// Every form's number over the tasks of form 1 and of form 2.
@@ -90,6 +105,11 @@ fn lasting_plan_a() -> Draft {
     plan_a().lasting(|task| [2, 1, 3, 1][task])
 }
 
+/// The same as Plan A in form 3, with R = 1.5.
+fn gentle_plan_a() -> Draft {
+    plan_a().gentle(15)
+}
+
 /// Sets a task's fields: successor count, first and second successor.
 fn set(draft: &mut Draft, task: usize, fields: [u32; 3]) {
     let [count, first, second] = fields;
@@ -158,4 +178,29 @@ const LASTING_EDITS: [fn(&mut Draft); 18] = [
     |draft| draft.tasks[0].ticks = 128,
     |draft| draft.tasks[0].ticks = 255,
     |draft| draft.tasks.iter_mut().for_each(|task| task.ticks = 1),
+];
+
+/// What is changed in its form 3, in the order of the questions 2 to 10.
+const GENTLE_EDITS: [fn(&mut Draft); 21] = [
+    |draft| draft.form = 1,
+    |draft| draft.form = 2,
+    |draft| draft.form = 4,
+    |draft| draft.has_tenths = false,
+    |draft| draft.utilization = 0,
+    |draft| draft.utilization = 1,
+    |draft| draft.utilization = 100,
+    |draft| draft.utilization = 101,
+    |draft| draft.utilization = 127,
+    |draft| draft.quantum_length = 0,
+    |draft| draft.quantum_length = 1,
+    |draft| draft.quantum_length = 8_192,
+    |draft| draft.quantum_length = MOST_GENTLE_LENGTH,
+    |draft| draft.count_less_one = 2,
+    |draft| draft.count_less_one = 4,
+    |draft| draft.has_ticks = true,
+    |draft| set(draft, 0, [3, 1, 2]),
+    |draft| set(draft, 1, [2, 3, 1]),
+    |draft| set(draft, 0, [1, 1, 0]),
+    |draft| set(draft, 2, [0, 0, 0]),
+    |draft| *draft = Draft::of_graph(&vec![vec![]]).gentle(15),
 ];

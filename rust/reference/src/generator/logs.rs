@@ -2,6 +2,7 @@
 //! a blind log is random bytes.
 
 use super::random::Random;
+use crate::growth::Growth;
 use crate::job::{Job, MOST_QUANTA};
 use crate::log::Entry;
 
@@ -85,13 +86,37 @@ pub const CHOICES: [Choices; 6] = [
 pub const ENDINGS: [Ending; 4] = [Ending::Plain, Ending::Plain, Ending::Late, Ending::Broken];
 
 /// Any style.
-pub fn style(random: &mut Random) -> Style {
+fn style(random: &mut Random) -> Style {
     Style {
         grants: *random.pick(&GRANTS).unwrap_or(&Grants::Full),
         choices: *random.pick(&CHOICES).unwrap_or(&Choices::Any),
         stray: *random.pick(&[0, 0, 4, 40, 120]).unwrap_or(&0),
         budget: budget(random),
         ending: *random.pick(&ENDINGS).unwrap_or(&Ending::Plain),
+    }
+}
+
+/// Any style for a plan in tenths. Every second one grants the desire, which
+/// takes up to 22 quanta to its top.
+fn gentle_style(random: &mut Random) -> Style {
+    let any = style(random);
+    if random.chance(128) {
+        return any;
+    }
+    Style {
+        grants: *random
+            .pick(&[Grants::Full, Grants::Full, Grants::Pauses])
+            .unwrap_or(&Grants::Full),
+        budget: random.between(300, 3_000),
+        ..any
+    }
+}
+
+/// Any style for a job.
+pub fn style_for(random: &mut Random, job: &Job) -> Style {
+    match job.plan().growth() {
+        Growth::Factor(_) => style(random),
+        Growth::Tenths(_) => gentle_style(random),
     }
 }
 

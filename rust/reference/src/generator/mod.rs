@@ -9,5 +9,5 @@ pub mod logs;
 pub mod plans;
 pub mod random;
 
-pub use case::{cases, Case};
+pub use case::{cases, gentle_cases, older_cases, Case};
 pub use random::Random;

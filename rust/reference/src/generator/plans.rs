@@ -19,6 +19,8 @@ pub struct Draft {
     pub form: u64,
     /// Whether the tasks have ticks, as in form 2.
     pub has_ticks: bool,
+    /// Whether the header is that of form 3, with the responsiveness in tenths.
+    pub has_tenths: bool,
     pub responsiveness: u64,
     pub utilization: u64,
     pub quantum_length: u64,
@@ -39,6 +41,7 @@ impl Draft {
         Draft {
             form: 1,
             has_ticks: false,
+            has_tenths: false,
             responsiveness: 2,
             utilization: 80,
             quantum_length: 2,
@@ -49,20 +52,37 @@ impl Draft {
 
     /// The same in form 2, with these ticks by task number.
     pub fn lasting(mut self, mut ticks: impl FnMut(usize) -> u32) -> Draft {
-        (self.form, self.has_ticks) = (2, true);
+        (self.form, self.has_ticks, self.has_tenths) = (2, true, false);
         for (number, task) in self.tasks.iter_mut().enumerate() {
             task.ticks = ticks(number);
         }
         self
     }
 
+    /// The same in form 3, with so many tenths.
+    pub fn gentle(mut self, tenths: u64) -> Draft {
+        (self.form, self.has_ticks, self.has_tenths) = (3, false, true);
+        self.responsiveness = tenths;
+        self
+    }
+
+    /// The bits of the header between form and number of tasks.
+    fn middle(&self) -> u64 {
+        let utilization = self.utilization & 127;
+        if self.has_tenths {
+            (self.responsiveness & 31) << 31
+                | utilization << 24
+                | (self.quantum_length & 16_383) << 10
+        } else {
+            (self.responsiveness & 7) << 33
+                | utilization << 26
+                | (self.quantum_length & 65_535) << 10
+        }
+    }
+
     /// The packed bytes; what does not fit in a field is cut off.
     pub fn bytes(&self) -> Vec<u8> {
-        let header = (self.form & 15) << 36
-            | (self.responsiveness & 7) << 33
-            | (self.utilization & 127) << 26
-            | (self.quantum_length & 65_535) << 10
-            | self.count_less_one & 1023;
+        let header = (self.form & 15) << 36 | self.middle() | self.count_less_one & 1023;
         let mut bytes = header.to_be_bytes()[3..].to_vec();
         for task in &self.tasks {
             let word = (task.count & 3) << 22 | (task.first & 2047) << 11 | task.second & 2047;
@@ -75,7 +95,7 @@ impl Draft {
     }
 }
 
-/// A sound plan of any kind, two of five in form 2.
+/// A sound plan of form 1 or 2, two of five in form 2.
 pub fn sound_draft(random: &mut Random) -> Draft {
     let draft = if random.chance(40) {
         wide_draft(random)
@@ -124,6 +144,42 @@ pub fn marathon_draft(random: &mut Random) -> Draft {
         draft = lasting(random, draft);
     }
     draft
+}
+
+/// The most ticks of a quantum in form 3.
+pub const MOST_GENTLE_LENGTH: u64 = 16_383;
+
+/// A sound plan of form 3. In every second one the desire has room to climb.
+pub fn gentle_draft(random: &mut Random) -> Draft {
+    let draft = match random.below(4) {
+        0 => wide_draft(random),
+        1 => narrow_draft(random),
+        _ => any_draft(random),
+    };
+    gentle(random, draft)
+}
+
+/// The same for a log that spends every quantum that may begin.
+pub fn gentle_marathon_draft(random: &mut Random) -> Draft {
+    let draft = marathon_draft(random);
+    gentle(random, draft)
+}
+
+/// A long graph of few tasks at a time and quanta of one tick or two, so that
+/// the utilization says up to which desire they are efficient.
+fn narrow_draft(random: &mut Random) -> Draft {
+    let (count, width) = (random.between(60, 400), random.between(1, 8));
+    let mut draft = Draft::of_graph(&graph(random, Shape::Tangled { width }, count));
+    let percents = [1, 2, 3, 4, 6, 8, 12, 20, 40, 70];
+    draft.utilization = *random.pick(&percents).unwrap_or(&1);
+    draft.quantum_length = random.between(1, 2) as u64;
+    draft
+}
+
+/// The same plan in form 3, with any of the ratios.
+pub fn gentle(random: &mut Random, mut draft: Draft) -> Draft {
+    draft.quantum_length = draft.quantum_length.min(MOST_GENTLE_LENGTH);
+    draft.gentle(random.between(12, 20) as u64)
 }
 
 /// How many ticks the tasks of a plan have.

@@ -4,7 +4,8 @@ use std::fs;
 use std::path::Path;
 
 use reference::generator::plans::Draft;
-use reference::{is_efficient, next_desire, program_output, run_log, Refusal, Status};
+use reference::{is_efficient, program_output, run_log, Refusal, Status};
+use reference::{Growth, Level, Pace};
 
 use super::{hex, input, job, plan_refusal, PLAN_A};
 
@@ -71,7 +72,12 @@ fn example_5_efficient() {
 
 #[test]
 fn example_6_desire_at_its_top() {
-    assert_eq!(next_desire(3, 27, true, true), 27);
+    let top = Level {
+        power: 3,
+        desire: 27,
+    };
+    let (_, next) = Pace::default().close(Growth::Factor(3), top, true, true);
+    assert_eq!(next, top);
 }
 
 #[test]

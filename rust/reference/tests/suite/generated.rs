@@ -4,7 +4,7 @@ use reference::coverage::{Branch, Coverage, BRANCHES};
 use reference::form;
 use reference::generator::graph::{graph, Shape};
 use reference::generator::plans::Draft;
-use reference::generator::{cases, Random};
+use reference::generator::{cases, gentle_cases, older_cases, Random};
 use reference::{read_plan, Plan, Refusal};
 
 use super::plan_refusal;
@@ -15,6 +15,10 @@ fn same_seed_same_cases() {
     assert_eq!(row(5), row(5));
     assert_ne!(row(5), row(6));
     assert_eq!(Random::new(0).next_u64(), 0xe220_a839_7b1d_cdaf);
+    // Two of forms 1 and 2, then one of form 3.
+    let (mut older, mut gentle) = (older_cases(5), gentle_cases(5));
+    let parts = [older.next(), older.next(), gentle.next(), older.next()];
+    assert_eq!(row(5)[..4], parts.map(|case| case.expect("a case")));
 }
 
 #[test]
@@ -33,7 +37,7 @@ fn graphs_are_sound() {
 
 #[test]
 fn plans_mix_ticks() {
-    let plans = cases(4)
+    let plans = older_cases(4)
         .take(400)
         .filter_map(|case| read_plan(&case.plan).ok());
     let ticks = |plan: Plan| plan.tasks().iter().map(|task| task.ticks()).collect();
@@ -50,7 +54,7 @@ fn plans_mix_ticks() {
 #[test]
 fn everything_is_reached() {
     let mut coverage = Coverage::default();
-    for case in cases(2).take(2_000) {
+    for case in cases(2).take(3_000) {
         coverage.cover(&case);
     }
     for refusal in Refusal::ALL {
@@ -67,8 +71,22 @@ fn everything_is_reached() {
     for ((_, name), &count) in form::BENT.iter().zip(coverage.readings()) {
         assert!(count > 0, "no plan is read otherwise: {name}");
     }
-    let forms = [Branch::PlanFormOne, Branch::PlanFormTwo].map(|form| coverage.branch(form));
-    assert!(forms[0] > 900 && forms[1] > 500, "{forms:?}");
+    let forms = [
+        Branch::PlanFormOne,
+        Branch::PlanFormTwo,
+        Branch::PlanFormThree,
+    ];
+    let forms = forms.map(|form| coverage.branch(form));
+    assert!(
+        forms[0] > 900 && forms[1] > 500 && forms[2] > 700,
+        "{forms:?}"
+    );
+    assert!(coverage
+        .ratios()
+        .iter()
+        .all(|(_, powers)| powers.plans > 50));
+    assert_eq!(coverage.ratios().missing(), [""; 0]);
+    assert_eq!(coverage.missing(), 0);
     assert!(coverage.responsiveness()[2..].iter().all(|&n| n > 0));
     assert!(coverage.allotments()[0] > 0 && coverage.allotments()[64] > 0);
 }

@@ -2,10 +2,10 @@
 
 use reference::generator::graph::{Graph, MOST_TASKS};
 use reference::generator::plans::Draft;
-use reference::generator::{cases, Case};
+use reference::generator::{cases, older_cases, Case};
 use reference::job::Deque;
 use reference::{lasting, program_output, program_output_with, split_input};
-use reference::{Entries, Job, OpenQuantum, Plan, Refusal, Rules, Status};
+use reference::{Entries, Growth, Job, OpenQuantum, Plan, Refusal, Rules, Status};
 
 use super::{hex, input, job, LASTING_PLAN_A, PLAN_A};
 
@@ -156,7 +156,9 @@ fn chained(plan: &Plan) -> Draft {
         graph.push(successors.map(|&s| starts[usize::from(s)]).collect());
     }
     let mut draft = Draft::of_graph(&graph);
-    draft.responsiveness = plan.responsiveness() as u64;
+    if let Growth::Factor(r) = plan.growth() {
+        draft.responsiveness = r.into();
+    }
     draft.utilization = plan.utilization();
     draft.quantum_length = u64::from(plan.quantum_length());
     draft
@@ -185,7 +187,7 @@ fn same(job: &Job, chains: &Job) -> bool {
     let numbers = |job: &Job| {
         let counts = (job.work_cycles(), job.mug_cycles(), job.steal_cycles());
         let quanta = (job.quanta_begun(), job.open_quantum());
-        let workers = (job.desire(), job.allotment(), job.status());
+        let workers = (job.desire(), job.power(), job.allotment(), job.status());
         (counts, quanta, workers, job.successful_steals())
     };
     let lines = job.deques().iter().chain(job.muggable_deques());
@@ -211,7 +213,7 @@ fn with_chains(case: Case) -> Option<(Vec<u8>, Job, Job)> {
 #[test]
 fn a_task_is_a_chain_of_its_ticks() {
     let mut compared = 0;
-    for (log, mut job, mut chains) in cases(9).take(1_500).filter_map(with_chains) {
+    for (log, mut job, mut chains) in older_cases(9).take(1_500).filter_map(with_chains) {
         compared += 1;
         for entry in Entries::new(&log).filter_map(Result::ok) {
             let answer = entry.apply(&mut job).err();
@@ -223,7 +225,7 @@ fn a_task_is_a_chain_of_its_ticks() {
 }
 
 /// How many inputs of a form print something else by that rule.
-fn told_apart(rules: Rules, form: u8, inputs: &[Case]) -> usize {
+pub fn told_apart(rules: Rules, form: u8, inputs: &[Case]) -> usize {
     let of_form = inputs.iter().filter(|case| {
         let plan = split_input(&case.input).map(|(plan, _)| plan);
         plan.map_or(false, |plan| {
@@ -237,13 +239,14 @@ fn told_apart(rules: Rules, form: u8, inputs: &[Case]) -> usize {
 
 #[test]
 fn bent_rules_show_in_form_2_alone() {
-    let inputs: Vec<Case> = cases(6).take(400).collect();
+    let inputs: Vec<Case> = cases(6).take(600).collect();
     for lasting in lasting::BENT {
         let rules = Rules {
             lasting,
             ..Rules::default()
         };
-        let found = [1, 2].map(|form| told_apart(rules, form, &inputs));
-        assert!(found[0] == 0 && found[1] > 5, "{found:?} with {lasting:?}");
+        let found = [1, 2, 3].map(|form| told_apart(rules, form, &inputs));
+        let elsewhere = found[0] + found[2];
+        assert!(elsewhere == 0 && found[1] > 5, "{found:?} with {lasting:?}");
     }
 }

@@ -3,6 +3,7 @@
 mod binary;
 mod examples;
 mod generated;
+mod gentle;
 mod lasting;
 mod mechanics;
 mod properties;

@@ -2,8 +2,8 @@
 //! checks keep their own account of the tasks, from the plan and the reports.
 
 use reference::generator::{cases, Case};
-use reference::{program_output, rest, run_log_with, Cycle, Entries, Entry, Job, Plan, Refusal};
-use reference::{Report, Rest, Rules, Status, TickReport};
+use reference::{program_output, rest, run_log_with, Cycle, Entries, Entry, Growth, Job, Plan};
+use reference::{Refusal, Report, Rest, Rules, Status, TickReport};
 
 /// What the checks remember of a job's calls.
 struct Witness {
@@ -198,19 +198,36 @@ fn check_state(job: &Job, witness: &Witness) {
     assert_eq!(job.work_cycles(), done);
     assert_eq!(job.status() == Status::Finished, count == worked.len());
     assert_eq!(job.ever_granted(), witness.largest_allotment > 0);
-    let r = job.plan().responsiveness();
-    let mut powers = std::iter::successors(Some(1), |power| Some(power * r));
-    let found = powers.find(|&power| power >= job.desire());
-    assert!(job.desire() <= 64 && found == Some(job.desire()));
+    check_desire(job);
 }
 
-/// The mug limit: M x L x D is at most 100 x (1 + R) x (W + M).
-fn check_limit(job: &Job) {
+/// The desire is the whole part of R to the power. In doubles, which are exact
+/// enough: only 2.0 has a power with a whole part so near.
+fn check_desire(job: &Job) {
+    let ratio = match job.plan().growth() {
+        Growth::Factor(r) => f64::from(r),
+        Growth::Tenths(tenths) => f64::from(tenths) / 10.0,
+    };
+    let power = ratio.powi(job.power() as i32);
+    assert_eq!(job.desire() as f64, power.floor());
+    assert!(job.desire() <= 64);
+}
+
+/// The two sides of the mug limit: M x L x D is at most 100 x (1 + R) x (W + M),
+/// and with t tenths M x L x D x 10 at most 100 x (10 + 2 x t) x (W + M).
+pub fn mug_limit(job: &Job) -> (u128, u128) {
     let (plan, mug) = (job.plan(), u128::from(job.mug_cycles()));
-    let product = u128::from(plan.quantum_length()) * u128::from(plan.utilization());
-    let factor = 100 * (1 + plan.responsiveness() as u128);
+    let product = mug * u128::from(plan.quantum_length()) * u128::from(plan.utilization());
     let useful = u128::from(job.work_cycles()) + mug;
-    assert!(mug * product <= factor * useful, "the mug limit is broken");
+    match plan.growth() {
+        Growth::Factor(r) => (product, 100 * (1 + u128::from(r)) * useful),
+        Growth::Tenths(t) => (product * 10, 100 * (10 + 2 * u128::from(t)) * useful),
+    }
+}
+
+fn check_limit(job: &Job) {
+    let (mugs, limit) = mug_limit(job);
+    assert!(mugs <= limit, "the mug limit is broken");
 }
 
 /// From the first grant above 0 the deques hold each ready unworked task

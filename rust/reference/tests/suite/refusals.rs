@@ -2,10 +2,9 @@
 
 use reference::generator::plans::{Draft, DraftTask};
 use reference::{
-    counters_line, counters_text, line_size, next_desire, program_output, run_log, wording,
-    DigitCount,
+    counters_line, counters_text, line_size, program_output, run_log, wording, DigitCount,
 };
-use reference::{Job, Refusal, Status};
+use reference::{Growth, Job, Pace, Refusal, Status};
 
 use super::{hex, input, job, plan_refusal, LASTING_PLAN_A, PLAN_A};
 
@@ -54,7 +53,7 @@ fn zero(count: u32, first: u32, second: u32) -> DraftTask {
 #[test]
 fn plan_questions() {
     assert_eq!(plan_refusal(&hex("15 40 00 08")), 1);
-    for form in (0..16).filter(|form| ![1, 2].contains(form)) {
+    for form in (0..16).filter(|form| ![1, 2, 3].contains(form)) {
         assert_eq!(changed(|d| d.form = form), 2);
         assert_eq!(lasting(|d| d.form = form), 2);
     }
@@ -242,6 +241,12 @@ fn program_input() {
 
 #[test]
 fn desire_climbs_to_the_largest_power() {
-    let tops = (2..=7).map(|r| (0..9).fold(1, |desire, _| next_desire(r, desire, true, true)));
-    assert_eq!(tops.collect::<Vec<_>>(), [64, 27, 64, 25, 36, 49]);
+    let top = |r: u8| {
+        let (pace, growth) = (Pace::default(), Growth::Factor(r));
+        let climb = |level, _| pace.close(growth, level, true, true).1;
+        let level = (0..9).fold(pace.start(growth), climb);
+        (level.desire, level.power)
+    };
+    let tops = [(64, 6), (27, 3), (64, 3), (25, 2), (36, 2), (49, 2)];
+    assert_eq!((2..=7).map(top).collect::<Vec<_>>(), tops);
 }

@@ -3,9 +3,9 @@
 use reference::coverage::{Coverage, BRANCHES};
 use reference::stored::{stored_cases, stored_set, KEPT_SEED};
 use reference::MOST_QUANTA;
-use reference::{form, lasting, rest, theft, withdrawal};
+use reference::{form, growth, lasting, rest, theft, withdrawal};
 use reference::{program_output, program_output_with, read_plan, run_log_with, split_input};
-use reference::{Cycle, Entries, Job, Plan, Refusal, Report, Rules, Status};
+use reference::{Cycle, Entries, Growth, Job, Plan, Refusal, Report, Rules, Status};
 
 /// The kept set, which the crate `vectors` runs, and what it must write.
 const KEPT: &[u8] = include_bytes!("../../../../crates/vectors/stdin");
@@ -48,6 +48,7 @@ fn kept_set_reaches_everything() {
         assert!(coverage.branch(branch) > 0, "never reached {name}");
     }
     assert!(coverage.responsiveness()[2..].iter().all(|&n| n > 0));
+    assert_eq!(coverage.ratios().missing(), [""; 0]);
     assert!(coverage.allotments().iter().all(|&n| n > 0));
 }
 
@@ -61,6 +62,27 @@ fn kept_set_has_the_smallest_and_the_largest() {
     let counts: Vec<usize> = plans.map(|plan| plan.task_count()).collect();
     for count in [1, 2, 1_024] {
         assert!(counts.contains(&count), "no plan of {count} tasks");
+    }
+}
+
+#[test]
+fn kept_set_has_at_most_524288_bytes() {
+    assert!(KEPT.len() <= 524_288, "{} bytes", KEPT.len());
+}
+
+#[test]
+fn kept_set_has_plans_in_tenths_at_the_limits_of_their_fields() {
+    let plans = kept().into_iter().filter_map(|(input, _)| plan(input));
+    let gentle = |plan: &Plan| matches!(plan.growth(), Growth::Tenths(_));
+    let plans: Vec<Plan> = plans.filter(gentle).collect();
+    for length in [1, 8_192, 16_383] {
+        assert!(plans.iter().any(|plan| plan.quantum_length() == length));
+    }
+    for percent in [1, 100] {
+        assert!(plans.iter().any(|plan| plan.utilization() == percent));
+    }
+    for count in [1, 2, 1_024] {
+        assert!(plans.iter().any(|plan| plan.task_count() == count));
     }
 }
 
@@ -276,6 +298,7 @@ fn kept_set_tells_the_requests_rules_apart() {
         form::BENT
             .map(|(reading, _)| Rules { reading, ..right })
             .to_vec(),
+        growth::BENT.map(|pace| Rules { pace, ..right }).to_vec(),
     ];
     for rules in bent.concat() {
         let found = told_apart(rules);
