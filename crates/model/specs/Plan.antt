@@ -118,7 +118,7 @@ form-with code (form ∷ others) = cond (eqb code (form .code)) form (form-with 
 unfoldable pub form-of : List ℕ → Form
 form-of bytes = form-with (form-field bytes) forms
 
--- the header's other fields, by the form
+-- the header's other fields: below the form's four bits come R, D of 7 bits, L, and N less one of 10
 abbrev pub growth-field-of : Form → ℕ → ℕ
 growth-field-of form bits = field (form .growth-bits) (17 + form .length-bits) bits
 

@@ -121,12 +121,12 @@ one-less k = go (ltb 0 k) refl
     go true some = refl
     go false none = let zero-is : k ≤ 0 = ltb-false _ _ none in omega arith
 
--- and the code can take it off
-pub some-to-take : (k : ℕ) → boolByte (ltb 0 k) ≤ k
-some-to-take k = go (ltb 0 k) refl
+-- and there is one to take off, whatever it is above
+pub some-to-take : (a k : ℕ) → boolByte (ltb a k) ≤ k
+some-to-take a k = go (ltb a k) refl
   where
-    go : (b : Bool) → ltb 0 k ≡ b → boolByte b ≤ k
-    go true some = ltb-true _ _ some
+    go : (b : Bool) → ltb a k ≡ b → boolByte b ≤ k
+    go true some = let more : a < k = ltb-true _ _ some in omega arith
     go false none = omega arith
 
 pub divides : (r : ℕ) (wish : Wish) (k : ℕ) → k ≡ wish .power - 1 →

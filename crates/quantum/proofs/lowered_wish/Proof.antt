@@ -7,7 +7,7 @@ use Rattle.quantum.proofs.lowered_wish.Statement.{statement}
 use Rattle.quantum.proofs.lowered_wish.Tie as tie
 
 sub-power : tie.Need-sub-power
-sub-power c = some-to-take _
+sub-power c = some-to-take _ _
 
 whole-part-requires : tie.Need-whole-part-requires
 whole-part-requires c κs =
