@@ -1,12 +1,12 @@
 -- Which plan forms there are, by the number in the header's form field: the rows of model's table, and the header that each has.
 -- Assumes nothing.
-use mathlib.Core.Path.{_≡_, refl, sym, _∙_}
+use mathlib.Core.Path.{_≡_, refl}
 use mathlib.Core.Bool.{Bool, true, false, _&&_, _||_}
 use Prim.Native.Nat.{ℕ, _≤_}
 use native.Mathlib.Omega.{arith}
-use borrow.Author.Tests.{eqb-true, eqb-false, eq-eqb, ne-eqb}
+use borrow.Author.Tests.{eqb-true}
 use lib.Dec.{leb, eqb}
-use Rattle.model.specs.Plan.{Form, form-1, form-2, form-3, no-form, forms, is-form, form-with, growth-with, growth-ok}
+use Rattle.model.specs.Plan.{form-1, form-2, form-3, no-form, forms, is-form, form-with, growth-with, growth-ok}
 use Rattle.lists.proofs.Tests.{true-is-not-false}
 use Rattle.plan_fields.specs.declared.Header.{Header}
 use Rattle.plan_fields.specs.Fields.{HeaderOf}

@@ -1,10 +1,10 @@
 // The fields of a plan's header and of a task, taken from their bytes, and the questions that are asked of them: 2 to 8, and 28.
 ghost use mathlib.Core.Path.{_≡_};
 ghost use mathlib.Core.Bool.{cond, _&&_};
-ghost use Prim.Native.Nat.{_+_, _*_, _%_, _≤_};
+ghost use Prim.Native.Nat.{_+_, _*_, _/_, _%_, _≤_};
 ghost use lib.Dec.{leb, eqb};
 ghost use Rattle.model.specs.Questions.{first-no, answer-number};
-ghost use Rattle.model.specs.Plan.{form-1, form-2, form-3, forms, is-form, form-with, growth-with, growth-ok, field};
+ghost use Rattle.model.specs.Plan.{form-1, form-2, forms, is-form, form-with, growth-with, growth-ok, field};
 ghost use Rattle.plan_fields.specs.Answers.{answer-of, passes};
 ghost use Rattle.plan_fields.specs.Fields.{HeaderOf, five-bytes, TaskOf, three-bytes, four-bytes};
 ghost use Rattle.plan_fields.specs.Fields.{field-questions, pair-questions, asked-of-task};
@@ -85,39 +85,35 @@ pub fn passed(answer: PlanAnswer) -> bool
     }
 }
 
-// The number of tasks: "N less one" stands in the last ten bits of every header.
-fn task_count(d: u8, e: u8) -> usize
-    ensures { λ r. ⌜ r ≡ d % 4 * 256 + e + 1 ⌝ }
+// R: three bits of the first byte, or in form 3 five bits of the first two.
+fn growth_of(gentle: bool, a: u8, b: u8) -> usize
+    ensures { λ r. ⌜ r ≡ cond gentle (a % 16 * 2 + b / 128) (a / 2 % 8) ⌝ }
 {
-    (d as usize) % 4 * 256 + (e as usize) + 1
+    if gentle {
+        return (a as usize) % 16 * 2 + (b as usize) / 128;
+    }
+    (a / 2 % 8) as usize
 }
 
-// The header's five bytes taken apart, as they are in forms 1 and 2.
-fn plain_header(a: u8, b: u8, c: u8, d: u8, e: u8) -> Header
-    ensures { λ r. ⌜ HeaderOf form-1 (five-bytes a b c d e) r ⌝ }
+// D: seven bits of the first two bytes, or in form 3 of the second.
+fn utilization_of(gentle: bool, a: u8, b: u8) -> usize
+    ensures { λ r. ⌜ r ≡ cond gentle (b % 128) (a % 2 * 64 + b / 4) ⌝ }
 {
-    Header {
-        form: (a / 16) as usize,
-        in_tenths: false,
-        responsiveness: (a / 2 % 8) as usize,
-        utilization: (a as usize) % 2 * 64 + (b as usize) / 4,
-        quantum: (b as usize) % 4 * 16384 + (c as usize) * 64 + (d as usize) / 4,
-        tasks: task_count(d, e),
+    if gentle {
+        return (b % 128) as usize;
     }
+    (a as usize) % 2 * 64 + (b as usize) / 4
 }
 
-// The same as they are in form 3.
-fn gentle_header(a: u8, b: u8, c: u8, d: u8, e: u8) -> Header
-    ensures { λ r. ⌜ HeaderOf form-3 (five-bytes a b c d e) r ⌝ }
+// L: sixteen bits of the second to the fourth byte, or in form 3 the lower fourteen of them.
+fn length_of(gentle: bool, b: u8, c: u8, d: u8) -> usize
+    ensures { λ r. ⌜ r ≡ cond gentle (c * 64 + d / 4) (b % 4 * 16384 + (c * 64 + d / 4)) ⌝ }
 {
-    Header {
-        form: (a / 16) as usize,
-        in_tenths: true,
-        responsiveness: (a as usize) % 16 * 2 + (b as usize) / 128,
-        utilization: (b % 128) as usize,
-        quantum: (c as usize) * 64 + (d as usize) / 4,
-        tasks: task_count(d, e),
+    let low = (c as usize) * 64 + (d as usize) / 4;
+    if gentle {
+        return low;
     }
+    (b as usize) % 4 * 16384 + low
 }
 
 // The header's five bytes taken apart, as they are in the form that the first of them names.
@@ -125,10 +121,15 @@ pub fn header_of(a: u8, b: u8, c: u8, d: u8, e: u8) -> Header
     ensures { λ r. ⌜ HeaderOf (form-with (field 4 36 (five-bytes a b c d e)) forms) (five-bytes a b c d e) r ⌝ }
 {
     let form = (a / 16) as usize;
-    if form == FORM_3 {
-        return gentle_header(a, b, c, d, e);
+    let gentle = form == FORM_3;
+    Header {
+        form,
+        in_tenths: gentle,
+        responsiveness: growth_of(gentle, a, b),
+        utilization: utilization_of(gentle, a, b),
+        quantum: length_of(gentle, b, c, d),
+        tasks: (d as usize) % 4 * 256 + (e as usize) + 1,
     }
-    plain_header(a, b, c, d, e)
 }
 
 // Is there a plan form of this number?

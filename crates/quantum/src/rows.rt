@@ -1,5 +1,5 @@
-// Request U14: "For each of the nine ratios a row of whole parts, up to 23 of them, serves". The rows of the ratios 1.2 to 2.0: the whole part
-// of each power from 0 on, up to the last that is at most 64, and 65 past it.
+// Request U14: "For each of the nine ratios a row of whole parts, up to 23 of them, serves". The rows of the ratios 1.2 to 2.0: the whole
+// part of each power from 0 on, up to the last that is at most 64, and 65 past it.
 pub const WHOLE_PARTS: [[u8; 23]; 9] = [
     // 1.2
     [
