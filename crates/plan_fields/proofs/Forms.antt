@@ -6,7 +6,7 @@ use Prim.Native.Nat.{ℕ, _≤_}
 use native.Mathlib.Omega.{arith}
 use borrow.Author.Tests.{eqb-true}
 use lib.Dec.{leb, eqb}
-use Rattle.model.specs.Plan.{form-1, form-2, form-3, no-form, forms, is-form, form-with, growth-with, growth-ok}
+use Rattle.model.specs.Plan.{Form, form-1, form-2, form-3, no-form, forms, is-form, form-with, growth-with, growth-ok}
 use Rattle.lists.proofs.Tests.{true-is-not-false}
 use Rattle.plan_fields.specs.declared.Header.{Header}
 use Rattle.plan_fields.specs.Fields.{HeaderOf}
@@ -74,38 +74,34 @@ module _ (form : ℕ) where
 
 -- ---- the header of a form
 
-module _ {bits : ℕ} {h : Header} {form : ℕ} where
-  pub gentle : form ≡ 3 → HeaderOf form-3 bits h → HeaderOf (form-with form forms) bits h
-  unfolding form-with forms
-  gentle e read = rw e read
+module _ {bits : ℕ} {h : Header} where
+  -- forms with the same widths of R and L, in whole numbers or in tenths both, have one header
+  same-header : (form other : Form) → other .in-tenths ≡ form .in-tenths → other .growth-bits ≡ form .growth-bits →
+      other .length-bits ≡ form .length-bits → HeaderOf form bits h → HeaderOf other bits h
+  same-header form other tenths r l read =
+      record {
+        form-read = read .form-read;
+        tenths-read = rw tenths (read .tenths-read);
+        responsiveness-read = rw (r, l) (read .responsiveness-read);
+        utilization-read = rw l (read .utilization-read);
+        quantum-read = rw l (read .quantum-read);
+        tasks-read = read .tasks-read;
+      }
 
-  -- all others have that of form 1, also what is no form
-  pub plain : (form ≡ 3 → ⊥) → HeaderOf form-1 bits h → HeaderOf (form-with form forms) bits h
-  plain other read = by (which-form form)
-    where
-      by : FormIs form → HeaderOf (form-with form forms) bits h
-      by (is-one e row) = rw row read
-      by (is-two e row) =
-          rw row
-          (record {
-            form-read = read .form-read;
-            tenths-read = read .tenths-read;
-            responsiveness-read = read .responsiveness-read;
-            utilization-read = read .utilization-read;
-            quantum-read = read .quantum-read;
-            tasks-read = read .tasks-read;
-          })
-      by (is-three e row) = absurd (other e)
-      by (is-none e row) =
-          rw row
-          (record {
-            form-read = read .form-read;
-            tenths-read = read .tenths-read;
-            responsiveness-read = read .responsiveness-read;
-            utilization-read = read .utilization-read;
-            quantum-read = read .quantum-read;
-            tasks-read = read .tasks-read;
-          })
+  module _ {form : ℕ} where
+    pub gentle : form ≡ 3 → HeaderOf form-3 bits h → HeaderOf (form-with form forms) bits h
+    unfolding form-with forms
+    gentle e read = rw e read
+
+    -- all others have that of form 1, also what is no form
+    pub plain : (form ≡ 3 → ⊥) → HeaderOf form-1 bits h → HeaderOf (form-with form forms) bits h
+    plain other read = by (which-form form)
+      where
+        by : FormIs form → HeaderOf (form-with form forms) bits h
+        by (is-one e row) = rw row read
+        by (is-two e row) = rw row (same-header form-1 form-2 refl refl refl read)
+        by (is-three e row) = absurd (other e)
+        by (is-none e row) = rw row (same-header form-1 no-form refl refl refl read)
 
 -- ---- question 3
 
