@@ -80,6 +80,19 @@ static uint8_t *copied(const uint8_t *bytes, size_t size)
     return copy;
 }
 
+static jirvaldo_job *copy_of(const jirvaldo_job *job)
+{
+    return (jirvaldo_job *)(void *)copied((const uint8_t *)job, sizeof *job);
+}
+
+/* releases the copy; whether the job is the same, byte for byte */
+static int is_still(const jirvaldo_job *job, jirvaldo_job *copy)
+{
+    int same = memcmp(job, copy, sizeof *job) == 0;
+    release_job(copy);
+    return same;
+}
+
 /* ---- calls whose bytes are lent in a block of their own */
 
 static unsigned accept_bytes(jirvaldo_job *job, const uint8_t *plan, size_t size)

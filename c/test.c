@@ -55,7 +55,16 @@ static void check_limits(const jirvaldo_job *job, unsigned tenths, unsigned d, u
 
 /* ---- driving a job */
 
-/* one random accepted call: a tick, or where no quantum is open a grant; 0, or 11 once the job is finished, or 13 */
+/* where no quantum is open: a noted offer is opened with so many workers or withdrawn, else as many are granted or offered */
+static unsigned give(jirvaldo_job *job, uint64_t workers, uint64_t *seed)
+{
+    unsigned answer = below(seed, 4) == 0 ? jirvaldo_withdraw(job) : jirvaldo_open(job, workers);
+    if (answer == JIRVALDO_GRANT_ABOVE_DESIRE) return jirvaldo_withdraw(job);
+    if (answer != JIRVALDO_OFFER_NONE) return answer;
+    return below(seed, 2) == 0 ? jirvaldo_grant(job, workers) : jirvaldo_offer(job, workers);
+}
+
+/* one random accepted call of the five; 0, or 11 once the job is finished, or 13 */
 static unsigned drive(jirvaldo_job *job, uint64_t *seed)
 {
     uint8_t choices[JIRVALDO_WORKERS_MAX];
@@ -65,7 +74,7 @@ static unsigned drive(jirvaldo_job *job, uint64_t *seed)
     for (i = 0; i < size; i++) choices[i] = (uint8_t)below(seed, (unsigned)size);
     answer = tick_bytes(job, choices, size);
     if (answer != JIRVALDO_TICK_NO_QUANTUM) return answer;
-    return jirvaldo_grant(job, n.desire - below(seed, most));
+    return give(job, n.desire - below(seed, most), seed);
 }
 
 static unsigned drive_on(jirvaldo_job *job, uint64_t *seed, unsigned calls)
@@ -237,18 +246,16 @@ static void test_plans_of_form_3(void)
 
 static void refuses_grant(jirvaldo_job *job, uint64_t workers, unsigned expected)
 {
-    jirvaldo_job *copy = (jirvaldo_job *)(void *)copied((const uint8_t *)job, sizeof *job);
+    jirvaldo_job *copy = copy_of(job);
     CHECK(jirvaldo_grant(job, workers) == expected);
-    CHECK(memcmp(job, copy, sizeof *job) == 0);
-    release_job(copy);
+    CHECK(is_still(job, copy));
 }
 
 static void refuses_tick(jirvaldo_job *job, const uint8_t *choices, size_t size, unsigned expected)
 {
-    jirvaldo_job *copy = (jirvaldo_job *)(void *)copied((const uint8_t *)job, sizeof *job);
+    jirvaldo_job *copy = copy_of(job);
     CHECK(tick_bytes(job, choices, size) == expected);
-    CHECK(memcmp(job, copy, sizeof *job) == 0);
-    release_job(copy);
+    CHECK(is_still(job, copy));
 }
 
 /* grants that wrap around in fewer bits would be 0 or 1 there, and accepted */
@@ -577,6 +584,229 @@ static void test_spent_quanta(void)
     release_job(job);
 }
 
+/* ---- offers */
+
+static void refuses_offer(jirvaldo_job *job, uint64_t workers, unsigned expected)
+{
+    jirvaldo_job *copy = copy_of(job);
+    CHECK(jirvaldo_offer(job, workers) == expected);
+    CHECK(is_still(job, copy));
+}
+
+static void refuses_open(jirvaldo_job *job, uint64_t workers, unsigned expected)
+{
+    jirvaldo_job *copy = copy_of(job);
+    CHECK(jirvaldo_open(job, workers) == expected);
+    CHECK(is_still(job, copy));
+}
+
+static void refuses_withdrawal(jirvaldo_job *job)
+{
+    jirvaldo_job *copy = copy_of(job);
+    CHECK(jirvaldo_withdraw(job) == JIRVALDO_OFFER_NONE);
+    CHECK(is_still(job, copy));
+}
+
+/* an accepted offer leaves the ten numbers, and with its withdrawal every byte is what it was */
+static void offers(jirvaldo_job *job, uint64_t workers)
+{
+    jirvaldo_job *before = copy_of(job), *withdrawn;
+    CHECK(jirvaldo_offer(job, workers) == 0);
+    CHECK(memcmp(job, before, sizeof *job) != 0 && same_numbers(job, before));
+    withdrawn = copy_of(job);
+    CHECK(jirvaldo_withdraw(withdrawn) == 0);
+    CHECK(is_still(withdrawn, before));
+    release_job(withdrawn);
+}
+
+/* opens the noted offer, on a copy: the same job as a grant to the one before the offer, and no offer is noted */
+static void opens(const jirvaldo_job *noted, const jirvaldo_job *before, uint64_t workers)
+{
+    jirvaldo_job *opened = copy_of(noted), *granted = copy_of(before);
+    CHECK(jirvaldo_open(opened, workers) == 0);
+    CHECK(jirvaldo_grant(granted, workers) == 0);
+    CHECK(is_still(opened, granted));
+    refuses_withdrawal(opened);
+    refuses_open(opened, workers, JIRVALDO_OFFER_NONE);
+    refuses_offer(opened, workers, JIRVALDO_GRANT_QUANTUM_OPEN);
+    release_job(opened);
+}
+
+enum { SAMPLES = 3 * 64 + 5 };
+
+/* numbers of workers: each power of two with its neighbours, those around the desire, and the last two */
+static uint64_t sampled(unsigned i, uint64_t desire)
+{
+    if (i < 3 * 64) return (UINT64_C(1) << i / 3) + i % 3 - 1;
+    if (i < 3 * 64 + 3) return desire + i % 3 - 1;
+    return UINT64_MAX - (SAMPLES - 1 - i);
+}
+
+/* offers of every sampled number to a job that would take a grant, and of those that it takes opens of every sampled number */
+static void check_offered_numbers(jirvaldo_job *job)
+{
+    jirvaldo_job *before = copy_of(job);
+    uint64_t desire = wanted(job), offered, opened;
+    unsigned i, k;
+    for (i = 0; i < SAMPLES; i++) {
+        offered = sampled(i, desire);
+        if (offered > desire) {
+            refuses_offer(job, offered, JIRVALDO_GRANT_ABOVE_DESIRE);
+            continue;
+        }
+        offers(job, offered);
+        for (k = 0; k < SAMPLES; k++) {
+            opened = sampled(k, offered);
+            refuses_offer(job, opened, JIRVALDO_OFFER_NOTED);
+            refuses_grant(job, opened, JIRVALDO_OFFER_NOTED);
+            if (opened > offered) refuses_open(job, opened, JIRVALDO_GRANT_ABOVE_DESIRE);
+            else opens(job, before, opened);
+        }
+        CHECK(jirvaldo_withdraw(job) == 0);
+    }
+    CHECK(is_still(job, before));
+}
+
+/* at the desires 1, 4, 16 and 64 */
+static void test_offered_numbers(void)
+{
+    plan_bytes plan;
+    jirvaldo_job *job;
+    uint64_t seed = 1;
+    fork_join(&plan, 4, 1, 1, 342);
+    job = accepted(&plan);
+    while (wanted(job) < JIRVALDO_WORKERS_MAX) {
+        check_offered_numbers(job);
+        one_tick(job, wanted(job), &seed);
+    }
+    check_offered_numbers(job);
+    release_job(job);
+}
+
+/* Plan A by offers and grants, with each call where it is refused */
+static void test_offers(void)
+{
+    static const uint8_t zeros[2] = {0};
+    plan_bytes plan;
+    jirvaldo_job *job;
+    plan_a(&plan);
+    job = accepted(&plan);
+    refuses_withdrawal(job);
+    refuses_open(job, 0, JIRVALDO_OFFER_NONE);
+    refuses_open(job, UINT64_MAX, JIRVALDO_OFFER_NONE);
+    offers(job, 1);
+    refuses_tick(job, zeros, 0, JIRVALDO_TICK_NO_QUANTUM);
+    refuses_tick(job, zeros, 1, JIRVALDO_TICK_NO_QUANTUM);
+    refuses_grant(job, 0, JIRVALDO_OFFER_NOTED);
+    refuses_grant(job, 2, JIRVALDO_OFFER_NOTED);
+    CHECK(jirvaldo_withdraw(job) == 0);
+    CHECK(jirvaldo_grant(job, 1) == 0 && tick_bytes(job, zeros, 1) == 0);
+    refuses_offer(job, 2, JIRVALDO_GRANT_QUANTUM_OPEN);
+    CHECK(tick_bytes(job, zeros, 1) == 0 && wanted(job) == 2);
+    offers(job, 0);
+    CHECK(jirvaldo_status(job) == JIRVALDO_STATUS_RUNNING);
+    CHECK(jirvaldo_open(job, 0) == 0 && jirvaldo_status(job) == JIRVALDO_STATUS_HELD);
+    CHECK(tick_bytes(job, NULL, 0) == 0 && tick_bytes(job, NULL, 0) == 0);
+    offers(job, 2);
+    CHECK(jirvaldo_open(job, 1) == 0 && tick_bytes(job, zeros, 1) == 0 && tick_bytes(job, zeros, 1) == 0);
+    offers(job, 1);
+    CHECK(jirvaldo_open(job, 1) == 0 && tick_bytes(job, zeros, 1) == 0);
+    CHECK(line_is(job, 0, "3 4 4 2 1 4 1 0 0 0"));
+    refuses_offer(job, 0, JIRVALDO_JOB_FINISHED);
+    refuses_offer(job, UINT64_MAX, JIRVALDO_JOB_FINISHED);
+    refuses_open(job, 0, JIRVALDO_OFFER_NONE);
+    refuses_withdrawal(job);
+    release_job(job);
+}
+
+/* two workers are offered and one is opened: an efficient quantum leaves the desire; two are opened: it doubles */
+static void test_satisfied_by_opened(void)
+{
+    static const uint8_t zeros[2] = {0};
+    plan_bytes plan;
+    jirvaldo_job *job;
+    uint64_t opened, seed = 1;
+    for (opened = 1; opened <= 2; opened++) {
+        wide(&plan, 2, 1, 1);
+        job = accepted(&plan);
+        one_tick(job, 1, &seed);
+        offers(job, 2);
+        CHECK(jirvaldo_open(job, opened) == 0 && tick_bytes(job, zeros, (size_t)opened) == 0);
+        CHECK(wanted(job) == 2 * opened);
+        release_job(job);
+    }
+}
+
+/* the last quantum that may begin can be offered, and withdrawals spend none; then an offer of any number gets 13 */
+static void test_offers_of_spent_quanta(void)
+{
+    plan_bytes plan;
+    jirvaldo_job *job;
+    unsigned quanta;
+    chain(&plan, 2, 80, 1, 2);
+    job = accepted(&plan);
+    for (quanta = 1; quanta < JIRVALDO_QUANTA_MAX; quanta++) {
+        CHECK(jirvaldo_offer(job, 1) == 0 && jirvaldo_withdraw(job) == 0);
+        CHECK(jirvaldo_offer(job, quanta % 2) == 0 && jirvaldo_open(job, 0) == 0 && jirvaldo_tick(job, NULL, 0) == 0);
+    }
+    offers(job, 1);
+    refuses_grant(job, 2, JIRVALDO_OFFER_NOTED);
+    CHECK(jirvaldo_open(job, 0) == 0);
+    refuses_offer(job, 0, JIRVALDO_GRANT_QUANTUM_OPEN);
+    CHECK(jirvaldo_tick(job, NULL, 0) == 0);
+    refuses_offer(job, 0, JIRVALDO_GRANT_QUANTA_SPENT);
+    refuses_offer(job, 1, JIRVALDO_GRANT_QUANTA_SPENT);
+    refuses_offer(job, UINT64_MAX, JIRVALDO_GRANT_QUANTA_SPENT);
+    refuses_open(job, 0, JIRVALDO_OFFER_NONE);
+    refuses_withdrawal(job);
+    CHECK(line_is(job, 0, "0 0 2 1 0 0 0 0 0 0"));
+    release_job(job);
+}
+
+/* a log on a job with a noted offer: every call is refused, up to where the log breaks */
+static void check_noted_log(jirvaldo_job *job, const char *log, size_t size, unsigned expected, uint64_t refused_calls)
+{
+    jirvaldo_job *copy = copy_of(job);
+    uint64_t refused = 99;
+    CHECK(log_bytes(job, (const uint8_t *)log, size, &refused) == expected);
+    CHECK(refused == refused_calls && is_still(job, copy));
+}
+
+static void test_noted_logs(void)
+{
+    static const char log[] = "\x01\x81\0\x81\0\0\x7F\x80\x82\0\0\x01";
+    plan_bytes plan;
+    jirvaldo_job *job;
+    plan_a(&plan);
+    job = accepted(&plan);
+    CHECK(jirvaldo_offer(job, 1) == 0);
+    check_noted_log(job, "", 0, 0, 0);
+    check_noted_log(job, log, sizeof log - 1, 0, 8);
+    check_noted_log(job, log, 10, JIRVALDO_LOG_BROKEN, 6);
+    check_noted_log(job, log + 8, 1, JIRVALDO_LOG_BROKEN, 0);
+    CHECK(jirvaldo_open(job, 1) == 0);
+    CHECK(log_bytes(job, (const uint8_t *)log + 1, 4, NULL) == 0);
+    CHECK(line_is(job, 0, "1 2 4 2 1 2 0 0 0 0"));
+    release_job(job);
+}
+
+/* an accepted plan has no offer noted, also over a job that has one; a refused plan leaves the offer */
+static void test_plans_over_offers(void)
+{
+    plan_bytes plan;
+    jirvaldo_job *job, *fresh;
+    plan_a(&plan);
+    job = accepted(&plan);
+    fresh = copy_of(job);
+    offers(job, 1);
+    CHECK(accept_bytes(job, plan.bytes, plan.size - 1) == JIRVALDO_PLAN_LENGTH);
+    refuses_grant(job, 1, JIRVALDO_OFFER_NOTED);
+    CHECK(accept_bytes(job, plan.bytes, plan.size) == 0);
+    CHECK(is_still(job, fresh));
+    refuses_withdrawal(job);
+    release_job(job);
+}
+
 /* ---- log, wording, line */
 
 static void check_log(const char *log, size_t size, unsigned expected, uint64_t refused_calls, const char *line)
@@ -691,17 +921,24 @@ static void test_zeros(void)
     release_job(job);
 }
 
+/* 0 has a sentence of its own, too */
+static int is_refusal(unsigned number)
+{
+    return number <= JIRVALDO_INPUT_SHORT || number == JIRVALDO_OFFER_NONE || number == JIRVALDO_OFFER_NOTED ||
+        number == JIRVALDO_PLAN_TICKS;
+}
+
+/* no two refusals have the same sentence, and all other numbers have one together */
 static void test_sentences(void)
 {
     unsigned number, other;
-    for (number = 0; number <= 23; number++) {
-        for (other = 0; other < number; other++) CHECK(strcmp(jirvaldo_sentence(number), jirvaldo_sentence(other)) != 0);
+    for (number = 0; number < 64; number++) {
+        for (other = 0; other < number; other++) {
+            int same = strcmp(jirvaldo_sentence(number), jirvaldo_sentence(other)) == 0;
+            CHECK(same == (!is_refusal(number) && !is_refusal(other)));
+        }
     }
     CHECK(jirvaldo_sentence(UINT32_MAX) == jirvaldo_sentence(23));
-    for (number = 24; number < 64; number++) {
-        CHECK((strcmp(jirvaldo_sentence(number), jirvaldo_sentence(23)) == 0) == (number != JIRVALDO_PLAN_TICKS));
-    }
-    for (number = 0; number < 23; number++) CHECK(strcmp(jirvaldo_sentence(number), jirvaldo_sentence(JIRVALDO_PLAN_TICKS)) != 0);
 }
 
 /* ---- jobs are plain data, and independent */
@@ -731,7 +968,7 @@ static void test_copies(uint64_t *seed)
     random_plan(&plan, seed);
     one = accepted(&plan);
     drive_on(one, seed, 1 + below(seed, 40));
-    copy = (jirvaldo_job *)(void *)copied((const uint8_t *)one, sizeof *one);
+    copy = copy_of(one);
     go_on = go_on_too = random_bits(seed);
     CHECK(drive_on(one, &go_on, 300) == drive_on(copy, &go_on_too, 300));
     CHECK(memcmp(one, copy, sizeof *one) == 0);
@@ -876,6 +1113,127 @@ static void test_random_logs(uint64_t *seed)
     release_job(by_calls);
 }
 
+/* ---- random calls of all five, beside a job that knows grants and ticks alone */
+
+enum { GRANT, OFFER, OPEN, WITHDRAW, TICK };
+
+typedef struct offered_job {
+    jirvaldo_job *job, *plain; /* the second has each number granted that the first has granted or opened */
+    uint64_t noted;            /* the offered number and one more; 0 where no offer is noted */
+    unsigned length, left;     /* the ticks of a quantum, and those that the open one has left */
+} offered_job;
+
+/* the answer to a call: of a tick with so many choices, which are sound, of the others with so many workers */
+static unsigned expected_answer(const offered_job *both, unsigned call, uint64_t number)
+{
+    jirvaldo_numbers n = jirvaldo_counters(both->plain, 0);
+    if (call == OPEN || call == WITHDRAW) {
+        if (both->noted == 0) return JIRVALDO_OFFER_NONE;
+        return call == OPEN && number >= both->noted ? JIRVALDO_GRANT_ABOVE_DESIRE : 0;
+    }
+    if (n.status == JIRVALDO_STATUS_FINISHED) return JIRVALDO_JOB_FINISHED;
+    if (call == TICK) {
+        if (both->left == 0) return JIRVALDO_TICK_NO_QUANTUM;
+        return number != n.allotment ? JIRVALDO_TICK_CHOICE_COUNT : 0;
+    }
+    if (both->left != 0) return JIRVALDO_GRANT_QUANTUM_OPEN;
+    if (both->noted != 0) return JIRVALDO_OFFER_NOTED;
+    return number > n.desire ? JIRVALDO_GRANT_ABOVE_DESIRE : 0;
+}
+
+static unsigned answer_to(jirvaldo_job *job, unsigned call, uint64_t number, const uint8_t *choices)
+{
+    switch (call) {
+    case GRANT: return jirvaldo_grant(job, number);
+    case OFFER: return jirvaldo_offer(job, number);
+    case OPEN: return jirvaldo_open(job, number);
+    case WITHDRAW: return jirvaldo_withdraw(job);
+    default: return tick_bytes(job, choices, (size_t)number);
+    }
+}
+
+/* an accepted call: the job without offers does as much of it as it knows */
+static void follow(offered_job *both, unsigned call, uint64_t number, const uint8_t *choices)
+{
+    if (call == TICK) {
+        CHECK(tick_bytes(both->plain, choices, (size_t)number) == 0);
+        both->left -= 1;
+        return;
+    }
+    both->noted = call == OFFER ? number + 1 : 0;
+    if (call == GRANT || call == OPEN) {
+        CHECK(jirvaldo_grant(both->plain, number) == 0);
+        both->left = both->length;
+    }
+}
+
+/* a number of workers: mostly one that may be accepted */
+static uint64_t random_number(const offered_job *both, uint64_t *seed)
+{
+    uint64_t desire = wanted(both->plain), most = both->noted != 0 ? both->noted - 1 : desire;
+    unsigned shift = below(seed, 64);
+    switch (below(seed, 8)) {
+    case 0: return random_bits(seed) >> shift;
+    case 1: return most + 1;
+    case 2: return desire;
+    case 3: return most;
+    default: return below(seed, (unsigned)most + 1);
+    }
+}
+
+static void random_call(offered_job *both, uint64_t *seed)
+{
+    uint8_t choices[JIRVALDO_WORKERS_MAX + 1];
+    unsigned i, call = below(seed, 7), size = (unsigned)jirvaldo_counters(both->plain, 0).allotment, answer;
+    uint64_t number = random_number(both, seed);
+    jirvaldo_job *before = copy_of(both->job);
+    if (call > TICK) call = TICK;
+    if (call == TICK) number = size + (below(seed, 16) == 0);
+    for (i = 0; i <= size; i++) choices[i] = (uint8_t)(size == 0 ? 0 : below(seed, size));
+    answer = answer_to(both->job, call, number, choices);
+    CHECK(answer == expected_answer(both, call, number));
+    CHECK((answer == 0) == (memcmp(both->job, before, sizeof *before) != 0));
+    if (answer == 0) follow(both, call, number, choices);
+    CHECK(same_numbers(both->job, both->plain));
+    CHECK((both->noted == 0) == (memcmp(both->job, both->plain, sizeof *before) == 0));
+    release_job(before);
+}
+
+/* any bytes as a log while an offer is noted: as many calls are refused as are made one by one, and nothing moves */
+static void random_noted_log(jirvaldo_job *job, uint64_t *seed)
+{
+    uint8_t log[300];
+    jirvaldo_job *copy = copy_of(job);
+    uint64_t refused, counted = 99;
+    size_t i, size = below(seed, sizeof log);
+    for (i = 0; i < size; i++) log[i] = (uint8_t)below(seed, below(seed, 2) == 0 ? 3 : 256);
+    CHECK(log_bytes(job, log, size, &counted) == call_by_call(copy, log, size, &refused));
+    CHECK(counted == refused && is_still(job, copy));
+}
+
+static void test_random_offers(uint64_t *seed)
+{
+    plan_bytes plan;
+    offered_job both;
+    unsigned r = 2 + below(seed, 6), d = 1 + below(seed, 100), form = 1 + below(seed, 3), size = 1 + below(seed, 100), calls;
+    both.length = 1 + below(seed, 3);
+    both.left = 0;
+    both.noted = 0;
+    put_header(&plan, 1, r, d, both.length, size);
+    random_graph(&plan, size, seed);
+    if (form == 2) random_ticks(&plan, 4, seed);
+    if (form == 3) in_form_3(&plan, 12 + below(seed, 9));
+    both.job = accepted(&plan);
+    both.plain = accepted(&plan);
+    for (calls = 0; calls < 150; calls++) {
+        random_call(&both, seed);
+        if (both.noted != 0 && below(seed, 8) == 0) random_noted_log(both.job, seed);
+    }
+    check_shown(both.job, random_bits(seed));
+    release_job(both.job);
+    release_job(both.plain);
+}
+
 /* ---- whole jobs */
 
 /* works a job to its end; the numbers before it is finished, too, keep the limits */
@@ -1005,6 +1363,12 @@ int main(int count, char **arguments)
     test_step_down();
     test_fall();
     test_spent_quanta();
+    test_offered_numbers();
+    test_offers();
+    test_satisfied_by_opened();
+    test_offers_of_spent_quanta();
+    test_noted_logs();
+    test_plans_over_offers();
     test_logs();
     test_wordings();
     test_lines();
@@ -1019,6 +1383,7 @@ int main(int count, char **arguments)
         test_turns(&seed);
         test_random_plans(&seed);
         test_random_logs(&seed);
+        test_random_offers(&seed);
         test_whole_jobs(&seed);
         test_ticks_of_one(&seed);
         test_twenty_tenths(&seed);

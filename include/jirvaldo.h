@@ -1,10 +1,12 @@
 /* Jirvaldo: a proved A-Steal scheduler core, for C99 and C++11 on x86-64 Linux. Link with -ljirvaldo; docs/INTEGRATING.md has the rest.
  *
  * A plan (a task graph in bytes) becomes a job in memory that you lend. A grant gives the job a number of workers and opens a quantum of
- * L ticks; in each tick every granted worker takes one cycle. A task lasts one tick in a plan of form 1 or 3, 1 to 255 in one of form 2,
- * and is worked when all its ticks are done. How many workers the job wants grows by a factor of 2 to 7 in forms 1 and 2, of 1.2 to 2.0 in
- * form 3. A function answers with 0, or with the number of the refusal; the first question that is answered by no gives the number. Nothing
- * is allocated, nothing is kept between calls, no file is read or written.
+ * L ticks; in each tick every granted worker takes one cycle. A grant can be made in two steps: an offer only notes a number, and an open
+ * grants as many or fewer; a withdrawal drops the offer instead. What is said here of a grant that was accepted is said of an open, too. A
+ * task lasts one tick in a plan of form 1 or 3, 1 to 255 in one of form 2, and is worked when all its ticks are done. How many workers the
+ * job wants grows by a factor of 2 to 7 in forms 1 and 2, of 1.2 to 2.0 in form 3. A function answers with 0, or with the number of the
+ * refusal; the first question that is answered by no gives the number. Nothing is allocated, nothing is kept between calls, no file is read
+ * or written.
  *
  * Proved, for all that a caller can hand over: the jirvaldo_core functions in the archive (the contracts of crates/exports
  * and, for a log, of crates/exports_log).
@@ -31,17 +33,17 @@ enum {
     JIRVALDO_WORKERS_MAX = 64,  /* workers that a job can want, and choices of a tick */
     JIRVALDO_QUANTA_MAX = 4096, /* quanta that a job may begin, those without a worker too */
     JIRVALDO_LINE_BUFFER = 128, /* bytes that a buffer for the counters line needs */
-    JIRVALDO_JOB_SIZE = 10912   /* bytes of a job */
+    JIRVALDO_JOB_SIZE = 10920   /* bytes of a job */
 };
 
 /* A job: plain data without pointers. Lend it and leave its fields alone. It need not be cleared before a plan is accepted into it; a byte
  * copy of a job is a job; there is nothing to free. */
 typedef struct jirvaldo_job {
-    uint64_t words_[20];
+    uint64_t words_[21];
     uint16_t memory_[5376];
 } jirvaldo_job;
 
-typedef char jirvaldo_job_has_10912_bytes[sizeof(jirvaldo_job) == JIRVALDO_JOB_SIZE ? 1 : -1];
+typedef char jirvaldo_job_has_10920_bytes[sizeof(jirvaldo_job) == JIRVALDO_JOB_SIZE ? 1 : -1];
 typedef char jirvaldo_sizes_have_64_bits[sizeof(size_t) == 8 ? 1 : -1];
 
 /* The refusals; jirvaldo_sentence says each. 21 and 22 are given by the program alone, by no function here. */
@@ -69,6 +71,8 @@ enum jirvaldo_refusal {
     JIRVALDO_BUFFER_SMALL = 20,
     JIRVALDO_INPUT_LONG = 21,
     JIRVALDO_INPUT_SHORT = 22,
+    JIRVALDO_OFFER_NONE = 24,
+    JIRVALDO_OFFER_NOTED = 25,
     JIRVALDO_PLAN_TICKS = 28
 };
 
@@ -86,7 +90,7 @@ typedef struct jirvaldo_part {
 } jirvaldo_part;
 
 /* The ten numbers of the counters line, in its order. Work, mug and steal cycles add up to the numbers of workers granted at all accepted
- * ticks: each granted worker counts one cycle in a tick, in the last one too. */
+ * ticks: each granted worker counts one cycle in a tick, in the last one too. An offer and a withdrawal change none of the ten. */
 typedef struct jirvaldo_numbers {
     uint64_t status;        /* of enum jirvaldo_job_status */
     uint64_t worked;        /* tasks that are worked: all their ticks are done */
@@ -103,6 +107,9 @@ typedef struct jirvaldo_numbers {
 /* The archive's functions. No pointer of these may be null, also where its size is 0; the functions below see to that. */
 uint8_t jirvaldo_core_accept(const uint8_t *plan, size_t plan_size, uint16_t *memory, uint64_t *words);
 uint8_t jirvaldo_core_grant(uint16_t *memory, uint64_t *words, uint64_t workers);
+uint8_t jirvaldo_core_offer(uint64_t *words, uint64_t workers);
+uint8_t jirvaldo_core_open(uint16_t *memory, uint64_t *words, uint64_t workers);
+uint8_t jirvaldo_core_withdraw(uint64_t *words);
 uint8_t jirvaldo_core_tick(uint16_t *memory, uint64_t *words, const uint8_t *choices, size_t choices_size);
 uint8_t jirvaldo_core_run_log(uint16_t *memory, uint64_t *words, const uint8_t *log, size_t log_size, uint64_t *refusals);
 uint8_t jirvaldo_core_status(const uint64_t *words);
@@ -122,11 +129,35 @@ static inline unsigned jirvaldo_accept(jirvaldo_job *job, const uint8_t *plan, s
 
 /* Grants a number of workers, 0 included, for the next quantum. 0: the quantum is open and takes L ticks; workers from that number up are
  * withdrawn, and their deques, unless empty, wait to be mugged: those of an earlier grant first, of one grant the highest worker's first.
- * 11: the job is finished. 12: a quantum is open. 13: JIRVALDO_QUANTA_MAX quanta have begun. 14: the job wants fewer workers, as it does of
- * every number above 64. Refused, the job is byte for byte as it was. */
+ * Asked in this order: 11: the job is finished. 12: a quantum is open. 13: JIRVALDO_QUANTA_MAX quanta have begun. 25: an offer is noted.
+ * 14: the job wants fewer workers, as it does of every number above 64. Refused, the job is byte for byte as it was. */
 static inline unsigned jirvaldo_grant(jirvaldo_job *job, uint64_t workers)
 {
     return jirvaldo_core_grant(job->memory_, job->words_, workers);
+}
+
+/* Offers a number of workers, 0 included, for the next quantum. 0: the offer is noted, and nothing else changes: no quantum opens, and no
+ * count, deque, desire or status moves. While it is noted, an open or a withdrawal alone moves the job. Asked as of a grant: 11: the job is
+ * finished. 12: a quantum is open. 13: JIRVALDO_QUANTA_MAX quanta have begun. 25: an offer is noted already. 14: the job wants fewer
+ * workers. Refused, the job is byte for byte as it was. */
+static inline unsigned jirvaldo_offer(jirvaldo_job *job, uint64_t workers)
+{
+    return jirvaldo_core_offer(job->words_, workers);
+}
+
+/* Opens the noted offer with a number of workers up to the offered one, 0 included. 0: the offer is dropped, and the job is as after a
+ * grant of this number; whether the quantum is satisfied depends on it and not on the offered one. Asked in this order: 24: no offer is
+ * noted. 14: fewer workers were offered. Refused, the job is byte for byte as it was, its offer noted as before. */
+static inline unsigned jirvaldo_open(jirvaldo_job *job, uint64_t workers)
+{
+    return jirvaldo_core_open(job->memory_, job->words_, workers);
+}
+
+/* Withdraws the noted offer. 0: the offer is dropped, and nothing else changes. 24: no offer is noted. Refused, the job is byte for byte as
+ * it was. */
+static inline unsigned jirvaldo_withdraw(jirvaldo_job *job)
+{
+    return jirvaldo_core_withdraw(job->words_);
 }
 
 /* One tick, with the number of a worker to steal from for each granted worker. 0: each worker took its cycle, in number order; the L-th tick
@@ -147,7 +178,8 @@ static inline unsigned jirvaldo_tick(jirvaldo_job *job, const uint8_t *choices, 
 
 /* Runs a log of any bytes, entry after entry, as the same grants and ticks would; refused ones are counted in *refused_calls and passed
  * over. 0: the log was whole. 18: its last entry is cut off; the job and the count are as the entries before left them. A log that moves
- * nothing (empty, cut off in its first entry, or all its calls refused) leaves the job byte for byte as it was. */
+ * nothing (empty, cut off in its first entry, or all its calls refused) leaves the job byte for byte as it was. A log has no offers: on a
+ * job with a noted one every grant (25) and every tick (15) of it is refused and counted. */
 static inline unsigned jirvaldo_run_log(jirvaldo_job *job, const uint8_t *log, size_t size, uint64_t *refused_calls)
 {
     const uint8_t none = 0;
@@ -226,7 +258,7 @@ static inline const char *jirvaldo_sentence(unsigned number)
     case JIRVALDO_JOB_FINISHED: return "The job is finished and takes no more grants and ticks.";
     case JIRVALDO_GRANT_QUANTUM_OPEN: return "A quantum is open; tick until it closes, then grant.";
     case JIRVALDO_GRANT_QUANTA_SPENT: return "4,096 quanta have begun, the most that a job may have.";
-    case JIRVALDO_GRANT_ABOVE_DESIRE: return "More workers are granted than the job desires; grant at most its desire.";
+    case JIRVALDO_GRANT_ABOVE_DESIRE: return "More workers are granted or offered than the job desires, or opened than were offered.";
     case JIRVALDO_TICK_NO_QUANTUM: return "No quantum is open; a grant opens one.";
     case JIRVALDO_TICK_CHOICE_COUNT: return "The tick has not exactly one choice for each granted worker.";
     case JIRVALDO_TICK_BAD_CHOICE: return "A choice names no granted worker; each has to be below the allotment.";
@@ -235,6 +267,8 @@ static inline const char *jirvaldo_sentence(unsigned number)
     case JIRVALDO_BUFFER_SMALL: return "The buffer for the counters line has fewer than 128 bytes.";
     case JIRVALDO_INPUT_LONG: return "The program's input has more than 65,536 bytes.";
     case JIRVALDO_INPUT_SHORT: return "The program's input ends before the plan does.";
+    case JIRVALDO_OFFER_NONE: return "No offer is noted; offer workers before you open or withdraw.";
+    case JIRVALDO_OFFER_NOTED: return "An offer is noted; open or withdraw it first.";
     case JIRVALDO_PLAN_TICKS: return "A task's ticks are 0; a task lasts at least one tick.";
     default: return "This number is no refusal.";
     }

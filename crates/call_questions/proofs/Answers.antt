@@ -13,8 +13,8 @@ use lib.Seq.{drop-cons, drop-length}
 use Rattle.model.specs.Tests.{every}
 use Rattle.model.specs.Questions.{refused}
 use Rattle.call_questions.specs.declared.CallAnswer.{CallAnswer}
-use Rattle.call_questions.specs.declared.CallAnswer.the-variants.{Accepted, Finished, QuantumOpen, QuantaSpent, AboveDesire}
-use Rattle.call_questions.specs.declared.CallAnswer.the-variants.{NoQuantum, WrongChoiceCount, BadChoice}
+use Rattle.call_questions.specs.declared.CallAnswer.the-variants.{Accepted, Finished, QuantumOpen, QuantaSpent, TooManyWorkers}
+use Rattle.call_questions.specs.declared.CallAnswer.the-variants.{NoQuantum, WrongChoiceCount, BadChoice, NoOffer, OfferNoted}
 use Rattle.call_questions.specs.Answers.{answer-of}
 use Rattle.call_questions.specs.Asked.{choices-below}
 use Rattle.call_questions.proofs.CallAnswer.{the-type}
@@ -44,13 +44,18 @@ pub record IsRefusal (answer : CallAnswer) : Type 0 where
   pub number : ℕ
   pub told : answer-of answer ≡ refused number
 
+abbrev refusals : List ℕ
+refusals = 1 ∷ 2 ∷ 3 ∷ 4 ∷ 5 ∷ 6 ∷ 7 ∷ 8 ∷ 9 ∷ []
+
 -- the code tells the answers apart by their tags, 0 for `Accepted`
-pub refusing : (answer : CallAnswer) → OneOf (1 ∷ 2 ∷ 3 ∷ 4 ∷ 5 ∷ 6 ∷ 7 ∷ []) (tagOf the-type answer) → IsRefusal answer
-refusing Accepted h = absurd (miss (1 ∷ 2 ∷ 3 ∷ 4 ∷ 5 ∷ 6 ∷ 7 ∷ []) 0 tt h)
+pub refusing : (answer : CallAnswer) → OneOf refusals (tagOf the-type answer) → IsRefusal answer
+refusing Accepted h = absurd (miss refusals 0 tt h)
 refusing Finished h = record { number = _; told = refl }
 refusing QuantumOpen h = record { number = _; told = refl }
 refusing QuantaSpent h = record { number = _; told = refl }
-refusing AboveDesire h = record { number = _; told = refl }
+refusing TooManyWorkers h = record { number = _; told = refl }
 refusing NoQuantum h = record { number = _; told = refl }
 refusing WrongChoiceCount h = record { number = _; told = refl }
 refusing BadChoice h = record { number = _; told = refl }
+refusing NoOffer h = record { number = _; told = refl }
+refusing OfferNoted h = record { number = _; told = refl }

@@ -1,4 +1,4 @@
--- The questions of a grant and a tick as the code asks them, of a job's words.
+-- The questions of each call as the code asks them, of a job's words.
 use mathlib.Core.Bool.{Bool, not}
 use mathlib.Core.List.{List, [], _∷_}
 use Prim.Native.Nat.{ℕ}
@@ -7,19 +7,32 @@ use lib.ListN.{length}
 use Rattle.model.specs.Tests.{every}
 use Rattle.model.specs.Questions.{Question, ask}
 use Rattle.model.specs.Machine.{quantum-limit}
-use Rattle.memory.specs.Words.{numbers-in, desire-in, open-in, begun-in}
+use Rattle.memory.specs.Words.{word, numbers-in, desire-in, open-in, begun-in, note-word}
 
 -- not all tasks are worked
 abbrev pub unfinished : List ℕ → Bool
 unfinished words = not (eqb (numbers-in words .done) (numbers-in words .tasks))
 
--- a grant, 11 to 14
+-- no offer is noted
+abbrev pub unnoted : List ℕ → Bool
+unnoted words = eqb (word words note-word) 0
+
+-- a grant or an offer, 11 to 13, 25 and 14
 unfoldable pub grant-asked : List ℕ → ℕ → List Question
 grant-asked words g =
     ask (unfinished words) 11 ∷ ask (not (open-in words)) 12
     ∷ ask (ltb (begun-in words) quantum-limit) 13
+    ∷ ask (unnoted words) 25
     ∷ ask (leb g (desire-in words)) 14
     ∷ []
+
+-- an opening, 24 and 14: the noted number is the offered count and 1
+unfoldable pub open-asked : List ℕ → ℕ → List Question
+open-asked words c = ask (not (unnoted words)) 24 ∷ ask (ltb c (word words note-word)) 14 ∷ []
+
+-- a withdrawal, 24
+unfoldable pub withdraw-asked : List ℕ → List Question
+withdraw-asked words = ask (not (unnoted words)) 24 ∷ []
 
 -- every choice is below the number of workers
 abbrev pub choices-below : List ℕ → ℕ → Bool

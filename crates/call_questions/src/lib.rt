@@ -1,11 +1,11 @@
-// The questions of a grant and of a tick, 11 to 17, asked of a job's words.
+// The questions of each call, 11 to 17, 24 and 25, asked of a job's words.
 use memory::Words;
 ghost use mathlib.Core.Path.{_≡_};
 ghost use Prim.Native.Nat.{_<_};
 ghost use Rattle.model.specs.Questions.{answer-number, first-no};
 ghost use Rattle.memory.specs.Words.{numbers-in};
 ghost use Rattle.call_questions.specs.Answers.{answer-of};
-ghost use Rattle.call_questions.specs.Asked.{grant-asked, tick-asked, choices-below};
+ghost use Rattle.call_questions.specs.Asked.{grant-asked, open-asked, withdraw-asked, tick-asked, choices-below};
 
 // So many quanta may begin: model's quantum-limit.
 const QUANTUM_LIMIT: u64 = 4096;
@@ -16,10 +16,12 @@ pub enum CallAnswer {
     Finished,
     QuantumOpen,
     QuantaSpent,
-    AboveDesire,
+    TooManyWorkers,
     NoQuantum,
     WrongChoiceCount,
     BadChoice,
+    NoOffer,
+    OfferNoted,
 }
 
 // The paper's number of a refusal, and 0 for acceptance.
@@ -31,14 +33,16 @@ pub fn number(answer: CallAnswer) -> u8
         CallAnswer::Finished => 11,
         CallAnswer::QuantumOpen => 12,
         CallAnswer::QuantaSpent => 13,
-        CallAnswer::AboveDesire => 14,
+        CallAnswer::TooManyWorkers => 14,
         CallAnswer::NoQuantum => 15,
         CallAnswer::WrongChoiceCount => 16,
         CallAnswer::BadChoice => 17,
+        CallAnswer::NoOffer => 24,
+        CallAnswer::OfferNoted => 25,
     }
 }
 
-// Questions 11 to 14.
+// Questions 11 to 13, 25 and 14, of a grant and of an offer.
 pub fn grant_answer(words: &Words, g: u64) -> CallAnswer
     ensures { λ r. ⌜ answer-of r ≡ first-no (grant-asked (now (words .entry)) g) ⌝ }
 {
@@ -51,8 +55,35 @@ pub fn grant_answer(words: &Words, g: u64) -> CallAnswer
     if words[memory::BEGUN] >= QUANTUM_LIMIT {
         return CallAnswer::QuantaSpent;
     }
+    if words[memory::NOTE] != 0 {
+        return CallAnswer::OfferNoted;
+    }
     if g > words[memory::DESIRE] {
-        return CallAnswer::AboveDesire;
+        return CallAnswer::TooManyWorkers;
+    }
+    CallAnswer::Accepted
+}
+
+// Questions 24 and 14, of an opening. The note is the offered count and 1.
+pub fn open_answer(words: &Words, c: u64) -> CallAnswer
+    ensures { λ r. ⌜ answer-of r ≡ first-no (open-asked (now (words .entry)) c) ⌝ }
+{
+    let note = words[memory::NOTE];
+    if note == 0 {
+        return CallAnswer::NoOffer;
+    }
+    if c >= note {
+        return CallAnswer::TooManyWorkers;
+    }
+    CallAnswer::Accepted
+}
+
+// Question 24, of a withdrawal.
+pub fn withdraw_answer(words: &Words) -> CallAnswer
+    ensures { λ r. ⌜ answer-of r ≡ first-no (withdraw-asked (now (words .entry))) ⌝ }
+{
+    if words[memory::NOTE] == 0 {
+        return CallAnswer::NoOffer;
     }
     CallAnswer::Accepted
 }

@@ -10,7 +10,7 @@ use Rattle.model.specs.Plan.{Plan, longest-quantum}
 use Rattle.model.specs.Machine.{State, most-workers, quantum-limit, opened, closes, closed}
 use Rattle.memory.specs.declared.Job.{Job}
 use Rattle.memory.specs.Parts.{parts}
-use Rattle.memory.specs.Words.{word-count, numbers-in, terms-in, wish-in, started-in, open-in, ticks-in, begun-in}
+use Rattle.memory.specs.Words.{word-count, numbers-in, terms-in, wish-in, started-in, open-in, ticks-in, begun-in, note-in}
 use Rattle.memory.specs.View.{view}
 use Rattle.memory.specs.Sound.{worked-in}
 use Rattle.memory.specs.Jobs.{lent, job-parts, job-numbers, job-plan, job-state}
@@ -33,6 +33,7 @@ quantum-opened g s =
       wish = s .wish;
       quantum = opened 0;
       begun = suc (s .begun);
+      note = s .note;
     }
 
 -- one quantum more may begin
@@ -56,6 +57,7 @@ tick-counted job =
       wish = wish-in (job .words);
       quantum = opened (suc (ticks-in (job .words)));
       begun = begun-in (job .words);
+      note = note-in (job .words);
     }
 
 -- the state after the quantum's end, where the quantum ends

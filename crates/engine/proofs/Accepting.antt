@@ -38,7 +38,7 @@ fresh-words h =
     ∷ 0 ∷ 0 ∷ 0 ∷ 0 ∷ 0 ∷ 0 ∷ 0 ∷ 0 ∷ 0
     ∷ h .responsiveness ∷ h .utilization ∷ h .«quantum_length»
     ∷ 1 ∷ 0 ∷ 0 ∷ 0 ∷ 0
-    ∷ boolByte (h .«in_tenths») ∷ 0 ∷ []
+    ∷ boolByte (h .«in_tenths») ∷ 0 ∷ 0 ∷ []
 
 -- a flag that is stored as a number is the flag
 flag-kept : (b : Bool) → not (eqb (boolByte b) 0) ≡ b

@@ -5,7 +5,7 @@ use mathlib.Core.List.{List}
 use Prim.Native.Nat.{ℕ}
 use native.Mathlib.Omega.{arith}
 use lib.ListN.{length}
-use Rattle.model.specs.Questions.{accepted, first-no}
+use Rattle.model.specs.Questions.{accepted}
 use Rattle.model.specs.Plan.{Plan}
 use Rattle.model.specs.Machine.{Call, grants, call-answer, step}
 use Rattle.model.specs.Machine as machine
@@ -19,22 +19,17 @@ use Rattle.memory.specs.Jobs.{lent, job-plan, job-state}
 use Rattle.memory.proofs.Views.{workers-shown}
 use Rattle.clock.specs.Clock.{Openable, Opened}
 use Rattle.allot.specs.Grants.{Grantable, Granted}
-use Rattle.call_questions.specs.Asked.{grant-asked}
 use Rattle.engine.specs.Reached.{Reached}
 use Rattle.engine.specs.Moves.{Moves}
-use Rattle.call_questions.proofs.Asking.{grant-asking}
 use Rattle.engine.proofs.Known.{known-arranged, known-measured, words-fit}
 use Rattle.engine.proofs.Moving.{plan-stays, accepted-moves}
 
 -- ---- an accepted grant
 
 module _ {plan : Plan} {calls : List Call} {memory words : List ℕ} (g : ℕ) (r : Reached plan calls (lent memory words))
-    (asked : first-no (grant-asked words g) ≡ accepted) where
+    (grant-is-accepted : call-answer (grants g) (job-state (lent memory words)) ≡ accepted) where
   abbrev job : Job
   job = lent memory words
-
-  grant-is-accepted : call-answer (grants g) (job-state job) ≡ accepted
-  grant-is-accepted = grant-asking job (r .kept .done-right) g ∙ asked
 
   facts : GrantAccepted g (job-state job)
   facts = grant-accepted g (job-state job) grant-is-accepted
@@ -89,6 +84,7 @@ module _ {plan : Plan} {calls : List Call} {memory words : List ℕ} (g : ℕ) (
             granted .tail .same-from 14 (omega arith),
             granted .tail .same-from 17 (omega arith),
             granted .tail .same-from 19 (omega arith),
+            granted .tail .same-from 20 (omega arith),
             granted .shown (job-state job) refl refl,
           )
           refl

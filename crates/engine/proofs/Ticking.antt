@@ -160,6 +160,7 @@ module _ {plan : Plan} {calls : List Call} {memory words : List ℕ} (choices : 
             tail .same-from 16 (omega arith),
             tail .same-from 17 (omega arith),
             tail .same-from 19 (omega arith),
+            tail .same-from 20 (omega arith),
             is-open,
           )
           refl

@@ -1,17 +1,17 @@
-// The in-place core of a job: acceptance, a grant and a tick, each in the memory and the words that are lent. Nothing is copied, and a call
-// reads and writes the words that it needs.
+// The in-place core of a job: acceptance, a grant, an offer with its opening and withdrawal, and a tick, each in the memory and the words that
+// are lent. Nothing is copied, and a call reads and writes the words that it needs.
 use call_questions::CallAnswer;
 use memory::Memory;
 use memory::Words;
 use plan_fields::PlanAnswer;
 ghost use mathlib.Core.Path.{_≡_};
 ghost use Rattle.model.specs.Plan.{plan-answer};
-ghost use Rattle.model.specs.Machine.{grants, ticks, call-answer};
+ghost use Rattle.model.specs.Machine.{grants, ticks, offers, opens, withdraws, call-answer};
 ghost use Rattle.plan_fields.specs.Answers.{answer-of as plan-answer-of};
 ghost use Rattle.call_questions.specs.Answers.{answer-of};
 ghost use Rattle.memory.specs.Jobs.{job, job-before, job-after, job-state};
-ghost use Rattle.engine.specs.Reached.{IsJob};
-ghost use Rattle.engine.specs.Moves.{Accepts, Moves};
+ghost use Rattle.engine.specs.Reached.{IsJob, JobWords};
+ghost use Rattle.engine.specs.Moves.{Accepts, Moves, MovesWords, Grants};
 
 // A plan of any bytes: the memory and the words hold its fresh job, whatever they held before; or the number of the first "no", and they
 // stay as they came.
@@ -50,8 +50,18 @@ pub fn accept(bytes: &[u8], memory: &mut Memory, words: &mut Words) -> PlanAnswe
         0, // quanta begun
         in_tenths,
         0, // the power
+        0, // the noted offer
     ];
     answer
+}
+
+// What an accepted grant of g does: its workers, and the quantum that opens.
+fn give(memory: &mut Memory, words: &mut Words, g: u64)
+    requires { ⌜ Grants g (job memory words) ⌝ }
+    ensures { λ _. ⌜ Moves (grants g) (job-before memory words) (job-after memory words) ⌝ }
+{
+    allot::allot(memory, words, g as usize);
+    clock::open_quantum(words, g);
 }
 
 // "A grant of g", any number of workers. Refused, it changes nothing.
@@ -64,8 +74,52 @@ pub fn grant(memory: &mut Memory, words: &mut Words, g: u64) -> CallAnswer
     let CallAnswer::Accepted = answer else {
         return answer;
     };
-    allot::allot(memory, words, g as usize);
-    clock::open_quantum(words, g);
+    give(memory, words, g);
+    answer
+}
+
+// An offer of g, any number of workers: it is noted, one more than it so that 0 is none, and nothing else moves. It reads and writes the
+// words alone. Refused, it changes nothing.
+pub fn offer(words: &mut Words, g: u64) -> CallAnswer
+    requires { ⌜ JobWords (now words) ⌝ }
+    ensures { λ r. ⌜ MovesWords (offers g) (now (words .entry)) (now (words .exit)) (answer-of r) ⌝ }
+{
+    let answer = call_questions::grant_answer(words, g);
+    let CallAnswer::Accepted = answer else {
+        return answer;
+    };
+    words[memory::NOTE] = g + 1;
+    answer
+}
+
+// An opening of the noted offer for c workers: the note is dropped, and then it is a grant of c. It asks 24 and 14 alone: while an offer is
+// noted nothing but an opening or a withdrawal can move the job, so 11 to 13 are still answered by yes (`offer-then-open` of laws). Refused, it
+// changes nothing.
+pub fn open(memory: &mut Memory, words: &mut Words, c: u64) -> CallAnswer
+    requires { ⌜ IsJob (job memory words) ⌝ }
+    ensures answered { λ r. ⌜ answer-of r ≡ call-answer (opens c) (job-state (job-before memory words)) ⌝ }
+    ensures moves { λ _. ⌜ Moves (opens c) (job-before memory words) (job-after memory words) ⌝ }
+{
+    let answer = call_questions::open_answer(words, c);
+    let CallAnswer::Accepted = answer else {
+        return answer;
+    };
+    words[memory::NOTE] = 0;
+    give(memory, words, c);
+    answer
+}
+
+// A withdrawal of the noted offer: the note is dropped, and nothing else moves. It reads and writes the words alone. Refused, it changes
+// nothing.
+pub fn withdraw(words: &mut Words) -> CallAnswer
+    requires { ⌜ JobWords (now words) ⌝ }
+    ensures { λ r. ⌜ MovesWords withdraws (now (words .entry)) (now (words .exit)) (answer-of r) ⌝ }
+{
+    let answer = call_questions::withdraw_answer(words);
+    let CallAnswer::Accepted = answer else {
+        return answer;
+    };
+    words[memory::NOTE] = 0;
     answer
 }
 

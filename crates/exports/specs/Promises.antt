@@ -11,10 +11,16 @@ use Rattle.model.specs.Digits.{line-size}
 use Rattle.memory.specs.declared.Job.{Job}
 use Rattle.memory.specs.Jobs.{lent, job-plan, job-state}
 use Rattle.engine.specs.Reached.{IsJob}
+use Rattle.engine.specs.Moves.{Moves}
 
 -- the number that a call of a job is answered with
 abbrev pub call-number : Call → Job → ℕ
 call-number call job = answer-number (call-answer call (job-state job))
+
+-- a call that is made of the words alone: its number, and what it leaves. Whatever memory makes the words a job stays as it is
+pub record CallsWords (call : Call) (words words′ : List ℕ) (r : ℕ) : Type 0 where
+  pub answered : (memory : List ℕ) → IsJob (lent memory words) → r ≡ call-number call (lent memory words)
+  pub moves : (memory : List ℕ) → IsJob (lent memory words) → Moves call (lent memory words) (lent memory words′)
 
 pub record ShowsStatus (words : List ℕ) (r : ℕ) : Type 0 where
   pub right : (memory : List ℕ) → IsJob (lent memory words) → r ≡ status (job-state (lent memory words))

@@ -5,11 +5,11 @@ use memory::Words;
 ghost use mathlib.Core.Path.{_≡_};
 ghost use Rattle.model.specs.Questions.{answer-number};
 ghost use Rattle.model.specs.Plan.{plan-answer};
-ghost use Rattle.model.specs.Machine.{grants, ticks};
+ghost use Rattle.model.specs.Machine.{grants, ticks, offers, opens, withdraws};
 ghost use Rattle.memory.specs.Jobs.{job, job-before, job-after};
 ghost use Rattle.engine.specs.Reached.{IsJob, JobWords};
 ghost use Rattle.engine.specs.Moves.{Accepts, Moves};
-ghost use Rattle.exports.specs.Promises.{call-number, ShowsStatus, ShowsCounters, ShowsLine, ShowsWording};
+ghost use Rattle.exports.specs.Promises.{call-number, CallsWords, ShowsStatus, ShowsCounters, ShowsLine, ShowsWording};
 use counters::LineAnswer;
 use label::Found;
 
@@ -32,6 +32,39 @@ pub extern "C" fn jirvaldo_core_grant(memory: &mut Memory, words: &mut Words, wo
 {
     let answer = engine::grant(memory, words, workers);
     call_questions::number(answer)
+}
+
+// An offer of any number of workers, which is only noted: it reads and writes the words alone. Refused, they stay as they came.
+#[no_mangle]
+pub extern "C" fn jirvaldo_core_offer(words: &mut Words, workers: u64) -> u8
+    requires { ⌜ JobWords (now words) ⌝ }
+    ensures { λ r. ⌜ CallsWords (offers workers) (now (words .entry)) (now (words .exit)) r ⌝ }
+{
+    let noting = engine::offer(words, workers);
+    call_questions::number(noting)
+}
+
+// An opening of the noted offer for any number of workers: a grant of them, and the note is dropped. While an offer is noted nothing but an
+// opening or a withdrawal can move the job, so it asks 24 and 14 alone. Refused, the memory stays as it came, the note too.
+#[no_mangle]
+pub extern "C" fn jirvaldo_core_open(memory: &mut Memory, words: &mut Words, workers: u64) -> u8
+    requires { ⌜ IsJob (job memory words) ⌝ }
+    ensures answered { λ r. ⌜ r ≡ call-number (opens workers) (job-before memory words) ⌝ }
+    ensures moves { λ _. ⌜ Moves (opens workers) (job-before memory words) (job-after memory words) ⌝ }
+{
+    let opening = engine::open(memory, words, workers);
+    call_questions::number(opening)
+}
+
+// A withdrawal of the noted offer: the note is dropped, and nothing else. It reads and writes the words alone. Refused, they stay as they
+// came.
+#[no_mangle]
+pub extern "C" fn jirvaldo_core_withdraw(words: &mut Words) -> u8
+    requires { ⌜ JobWords (now words) ⌝ }
+    ensures { λ r. ⌜ CallsWords withdraws (now (words .entry)) (now (words .exit)) r ⌝ }
+{
+    let dropping = engine::withdraw(words);
+    call_questions::number(dropping)
 }
 
 // A tick with a choice for each granted worker. Refused, the memory stays as it came.

@@ -3,7 +3,7 @@
 use memory::Words;
 ghost use mathlib.Core.Path.{_≡_};
 ghost use Rattle.model.specs.Plan.{plan-answer};
-ghost use Rattle.model.specs.Machine.{grants, ticks, call-answer, status};
+ghost use Rattle.model.specs.Machine.{grants, ticks, offers, opens, withdraws, call-answer, status};
 ghost use Rattle.plan_fields.specs.Answers.{answer-of as plan-answer-of};
 ghost use Rattle.memory.specs.Jobs.{job-state};
 ghost use Rattle.call_questions.specs.Answers.{answer-of};
@@ -52,6 +52,52 @@ pub fn grant(job: Job, g: u64) -> Called
     let mut memory = job.memory;
     let mut words = job.words;
     let answer = engine::grant(&mut memory, &mut words, g);
+    Called {
+        answer,
+        job: Job { memory, words },
+    }
+}
+
+// An offer of g workers, any number, which is only noted. Refused, the record comes back unchanged.
+pub fn offer(job: Job, g: u64) -> Called
+    requires { ⌜ IsJob job ⌝ }
+    ensures answered { λ r. ⌜ answer-of (r .answer) ≡ call-answer (offers g) (job-state job) ⌝ }
+    ensures moves { λ r. ⌜ Moves (offers g) job (r .job) ⌝ }
+{
+    let memory = job.memory;
+    let mut words = job.words;
+    let answer = engine::offer(&mut words, g);
+    Called {
+        answer,
+        job: Job { memory, words },
+    }
+}
+
+// An opening of the noted offer for c workers: a grant of c, and the note is dropped. While an offer is noted nothing but an opening or a
+// withdrawal can move the job, so it asks 24 and 14 alone. Refused, the record comes back unchanged, the note too.
+pub fn open(job: Job, c: u64) -> Called
+    requires { ⌜ IsJob job ⌝ }
+    ensures answered { λ r. ⌜ answer-of (r .answer) ≡ call-answer (opens c) (job-state job) ⌝ }
+    ensures moves { λ r. ⌜ Moves (opens c) job (r .job) ⌝ }
+{
+    let mut memory = job.memory;
+    let mut words = job.words;
+    let answer = engine::open(&mut memory, &mut words, c);
+    Called {
+        answer,
+        job: Job { memory, words },
+    }
+}
+
+// A withdrawal of the noted offer: the note is dropped, and nothing else. Refused, the record comes back unchanged.
+pub fn withdraw(job: Job) -> Called
+    requires { ⌜ IsJob job ⌝ }
+    ensures answered { λ r. ⌜ answer-of (r .answer) ≡ call-answer withdraws (job-state job) ⌝ }
+    ensures moves { λ r. ⌜ Moves withdraws job (r .job) ⌝ }
+{
+    let memory = job.memory;
+    let mut words = job.words;
+    let answer = engine::withdraw(&mut words);
     Called {
         answer,
         job: Job { memory, words },

@@ -8,14 +8,14 @@ use mathlib.Core.List.{List}
 use Prim.Native.Nat.{ℕ}
 use native.Mathlib.Omega.{arith}
 use Rattle.model.specs.Plan.{Plan}
-use Rattle.model.specs.Machine.{Call, fresh, grant, ticked, closes, closed, tick}
-use Rattle.model.specs.History.{History, beginning, history-grant, history-tick, history-step, run}
+use Rattle.model.specs.Machine.{Note, Call, fresh, grant, ticked, closes, closed, tick}
+use Rattle.model.specs.History.{History, beginning, history-noted, history-grant, history-tick, history-step, run}
 use Rattle.model.specs.Statements.{SoundPlan, ending, EndsAsRecorded}
 use Rattle.laws.proofs.Accepted.{GrantAccepted, TickAccepted, tick-accepted}
 use Rattle.laws.proofs.Runs.{history-ticked, history-closed, tick-moves, by-moves}
 use Rattle.laws.proofs.Progress.{tick-progress}
 use Rattle.laws.proofs.Ladder.{ladder-of}
-use Rattle.laws.proofs.Powers.{Phase, phase-start, phase-granted, phase-ticked, phase-closed, at-end, OnLadder, ended}
+use Rattle.laws.proofs.Powers.{Phase, phase-start, phase-noted, phase-granted, phase-ticked, phase-closed, at-end, OnLadder, ended}
 use Rattle.laws.proofs.PairingLaw.{Stacked, stacked-none, stacked-end}
 use Rattle.laws.proofs.MugLimitLaw.{Balance, balance-start, balance-granted, balance-ticked, balance-closed}
 use Rattle.laws.proofs.SpentLaw.{Paced, paced-start, paced-granted, paced-ticked, paced-closed}
@@ -37,6 +37,16 @@ module _ {plan : Plan} (sound : SoundPlan plan) where
         stack = stacked-none (plan .terms .growth);
         balance = balance-start plan;
         pace = paced-start plan;
+      }
+
+  carried-noted : (h : History) (note : Note) → Carried plan h → Carried plan (history-noted note h)
+  carried-noted h note c =
+      record {
+        phase = phase-noted h note (c .phase);
+        desire = c .desire;
+        stack = c .stack;
+        balance = record { covered = c .balance .covered; paid = c .balance .paid };
+        pace = record { counted = c .pace .counted; used = c .pace .used };
       }
 
   carried-granted : (g : ℕ) (h : History) → GrantAccepted g (h .state) → Carried plan h → Carried plan (history-grant g h)
@@ -90,7 +100,7 @@ module _ {plan : Plan} (sound : SoundPlan plan) where
   -- after any calls; and after a tick that is accepted then
   pub carried : (calls : List Call) → Carried plan (run plan calls)
   carried =
-      by-moves plan (Carried plan) carried-start
+      by-moves plan (Carried plan) carried-start carried-noted
       (λ calls g asked c. carried-granted g (run plan calls) asked c)
       carried-ticked
       carried-closed

@@ -222,6 +222,7 @@ module _ {plan : Plan} (sound : SoundPlan plan) where
   after-any =
       run-keeps plan (λ h. FrontsBegun plan (h .state .execution))
       (unstarted-fronts refl)
+      (λ h note fronts. fronts)
       (λ done g t fronts. grant-fronts (run plan done .state) (arranged sound done) g fronts)
       (λ done choices t fronts.
       rw (tick-execution plan choices (run plan done .state)) (cycles-fronts fronts choices (omega (arith, t .one-each))))

@@ -23,7 +23,7 @@ use Rattle.laws.proofs.Placement.{cycles-placed, cycles-tallied}
 use Rattle.laws.proofs.Bounds.{bounded-more, cycles-bounded}
 use Rattle.laws.proofs.Grants.{grant-placed, grant-bounded, first-grant-placed, first-grant-bounded}
 use Rattle.laws.proofs.Grants.{no-grant-unstarted}
-use Rattle.laws.proofs.Accepted.{TickAccepted, tick-execution, tick-started}
+use Rattle.laws.proofs.Accepted.{TickAccepted, not-idle, tick-execution, tick-started}
 use Rattle.laws.proofs.Runs.{history-closed, run-keeps, by-moves}
 
 -- ---- where the tasks stand
@@ -90,6 +90,7 @@ module _ {plan : Plan} (sound : SoundPlan plan) where
   arranged calls =
       run-keeps plan (λ h. Arranged plan (h .state))
       fresh-arranged
+      (λ h note a. record { before = a .before; after = a .after; tally = a .tally })
       (λ done g t a. grant-arranged (run plan done .state) a g)
       (λ done choices t a. tick-arranged (run plan done .state) a choices t)
       calls
@@ -149,9 +150,6 @@ unfolding largest-closed
 largest-verdict plan none usage = refl
 largest-verdict plan (begun-with wish granted) usage = omega arith
 
-pub not-idle : {k : ℕ} → opened k ≡ idle → ⊥
-not-idle p = let z : _≡_ {A = ℕ} 0 1 = cc in omega arith
-
 record Largest (h : History) : Type 0 where
   none-current : h .state .quantum ≡ idle → granted-in (h .current) ≡ 0
   at-most : Bounded (largest-granted h) (h .state .execution)
@@ -174,6 +172,7 @@ module _ {plan : Plan} (sound : SoundPlan plan) where
         none-current = λ p. refl;
         at-most = unstarted-bounded (max (largest-closed []) 0) (fresh-arranged sound .before refl);
       })
+      (λ h note l. unfold largest-granted in record { none-current = l .none-current; at-most = l .at-most })
       (λ done g t l. unfold history-grant largest-granted grant in
       record {
         none-current = λ p. absurd (not-idle p);

@@ -8,8 +8,9 @@ use native.Mathlib.Omega.{arith}
 use lib.ListN.{length}
 use Rattle.model.specs.Plan.{Plan, Graph}
 use Rattle.model.specs.Machine.{Counts, Execution, State, Cycle, works-on, mugs-deque, steals-from, steals-nothing, work-cycle, mug-cycle}
-use Rattle.model.specs.Machine.{successful-steal, failed-steal, cycle, cycle-of, turn, cycles, cycles-made, fresh, grant, tick, Call}
-use Rattle.model.specs.History.{History, beginning, history-grant, history-tick, history-step, run}
+use Rattle.model.specs.Machine.{successful-steal, failed-steal, cycle, cycle-of, turn, cycles, cycles-made, fresh, grant, withdraw-offer}
+use Rattle.model.specs.Machine.{tick, Call}
+use Rattle.model.specs.History.{History, beginning, history-grant, history-tick, history-open, history-step, run}
 use Rattle.laws.specs.Meaning.{is-work, is-mug, is-steal, is-success, count-of, works-in, mugs-in, steals-in, successes-in, Counted}
 use Rattle.laws.specs.Meaning.{CountsMean, UsageMeans}
 use Rattle.laws.proofs.Cycles.{cycle-cases, cycles-made-keep}
@@ -110,6 +111,7 @@ unfolding beginning fresh history-grant history-tick grant count-of
 counts-mean plan calls =
     run-keeps plan CountsMean
     (record { work = refl; mug = refl; steal = refl; success = refl })
+    (λ h note p. record { work = p .work; mug = p .mug; steal = p .steal; success = p .success })
     (λ done g a p. record { work = p .work; mug = p .mug; steal = p .steal; success = p .success })
     (λ done choices a p.
     let h = run plan done in
@@ -124,10 +126,11 @@ counts-mean plan calls =
     calls
 
 pub usage-means : (plan : Plan) (h : History) → UsageMeans plan h
-unfolding history-step history-grant history-tick
+unfolding history-step history-grant history-tick history-open
 usage-means plan h =
     record {
-      opens-at-0 = λ g yes-answer. rw yes-answer (grant-usage g (h .state));
+      granted-at-0 = λ g yes-answer. rw yes-answer (grant-usage g (h .state));
+      opened-at-0 = λ c yes-answer. rw yes-answer (grant-usage c (withdraw-offer (h .state)));
       grows = λ choices yes-answer. (
         rw yes-answer (tick-counted plan choices (h .state) (tick-accepted choices (h .state) yes-answer) .nonsteal-usage),
         rw yes-answer refl,

@@ -11,7 +11,7 @@ use lib.ListN.{length}
 use borrow.Author.Tests.{eqb-false}
 use Rattle.model.specs.Plan.{Plan, longest-duration}
 use Rattle.model.specs.Machine.{Execution, State, idle, opened, ticks-of, fresh, grant, cycles, cycles-made, tick}
-use Rattle.model.specs.Machine.{ticked, closes, closed, finished, most-workers, Call}
+use Rattle.model.specs.Machine.{ticked, closes, closed, finished, most-workers, Note, with-note, Call}
 use Rattle.model.specs.History.{beginning, history-grant, history-tick, run}
 use Rattle.model.specs.Statements.{SoundPlan, WithinBounds}
 use Rattle.model.specs.WholeTicks.{all-counted}
@@ -23,9 +23,9 @@ use Rattle.laws.proofs.Cycles.{cycles-allotment}
 use Rattle.laws.proofs.Bounds.{bounded-more, cycles-bounded}
 use Rattle.laws.proofs.Grants.{grant-allotment}
 use Rattle.laws.proofs.Meaning.{cycles-counted, all-kinds, successes-are-steals, one-cycle-each}
-use Rattle.laws.proofs.Accepted.{GrantAccepted, TickAccepted, tick-cases}
+use Rattle.laws.proofs.Accepted.{GrantAccepted, TickAccepted, not-idle, tick-cases}
 use Rattle.laws.proofs.Runs.{run-keeps}
-use Rattle.laws.proofs.Histories.{unstarted-bounded, fresh-arranged, arranged, arranged-grant-bounded, not-idle, work-at-most}
+use Rattle.laws.proofs.Histories.{unstarted-bounded, fresh-arranged, arranged, arranged-grant-bounded, work-at-most}
 use Rattle.laws.proofs.Carried.{carried-tick}
 
 not-opened : {k : ℕ} → idle ≡ opened k → ⊥
@@ -46,6 +46,26 @@ module _ {plan : Plan} (sound : SoundPlan plan) where
         usage-at-most = omega arith;
         cycles-at-most = omega arith;
         successful = omega arith;
+      }
+
+  noted-measured : (s : State) (note : Note) → Measured plan s → Measured plan (with-note note s)
+  noted-measured s note m =
+      record {
+        wanted = m .wanted;
+        deques-at-most = m .deques-at-most;
+        quanta = m .quanta;
+        current = λ ticks p.
+            let q = m .current ticks p in
+            record {
+              within = q .within;
+              unclosed = q .unclosed;
+              granted = q .granted;
+              usage-so-far = q .usage-so-far;
+              room = q .room;
+            };
+        usage-at-most = m .usage-at-most;
+        cycles-at-most = m .cycles-at-most;
+        successful = m .successful;
       }
 
   grant-measured : {s : State} → Arranged plan s → Measured plan s → (g : ℕ) → GrantAccepted g s → Measured plan (grant g s)
@@ -154,6 +174,7 @@ module _ {plan : Plan} (sound : SoundPlan plan) where
   measured calls =
       run-keeps plan (λ h. Measured plan (h .state))
       fresh-measured
+      (λ h note m. noted-measured (h .state) note m)
       (λ done g t m. grant-measured (arranged sound done) m g t)
       (λ done choices t m. tick-measured m choices t (carried-tick sound done choices t .desire .at-most))
       calls

@@ -12,8 +12,8 @@ use Rattle.model.specs.Questions.{Answer, accepted, refused, by-answer}
 use Rattle.model.specs.Plan.{Plan, Graph}
 use Rattle.model.specs.Machine.{Execution, deque-of, fresh, grant, withdrawn-deques, work-cycle, mug-cycle, successful-steal, failed-steal}
 use Rattle.model.specs.Machine.{Cycle, works-on, mugs-deque, steals-from, steals-nothing, cycle, cycle-of, cycles-made, tick}
-use Rattle.model.specs.Machine.{Call, grants, ticks, call-answer, step}
-use Rattle.model.specs.History.{History, beginning, history-grant, history-tick, history-moved, history-step, run, run-from}
+use Rattle.model.specs.Machine.{Call, grants, ticks, offers, opens, withdraws, call-answer, step}
+use Rattle.model.specs.History.{History, beginning, history-grant, history-tick, history-open, history-moved, history-step, run, run-from}
 use Rattle.model.specs.Muggings.{withdrawn-by, all-withdrawn, mugged-in, MuggedInTurn}
 use Rattle.laws.proofs.Withdrawals.{highest-first}
 use Rattle.laws.proofs.Cycles.{cycle-cases, cycles-made-keep, mugs}
@@ -89,15 +89,21 @@ so-far h = in-order (h .made) (h .state .execution)
 
 step-in-order : (plan : Plan) (call : Call) (h : History) →
     so-far (history-step plan call h) ≡ so-far h ++ by-answer (call-answer call (h .state)) (withdrawn-by call (h .state)) []
-unfolding history-step history-grant history-tick grant
+unfolding history-step history-grant history-tick history-open grant
 step-in-order plan call h = go call (call-answer call (h .state)) refl
   where
+    granted : (g : ℕ) → so-far (history-grant g h) ≡ so-far h ++ withdrawn-deques g (h .state .execution .deques)
+    granted g =
+        sym (append-assoc (mugged-in (h .made)) (h .state .execution .muggable) (withdrawn-deques g (h .state .execution .deques)))
+
     go : (c : Call) (a : Answer) → call-answer c (h .state) ≡ a →
         so-far (by-answer a (history-moved plan c h) h) ≡ so-far h ++ by-answer a (withdrawn-by c (h .state)) []
     go c (refused n) is = sym (append-nil (so-far h))
-    go (grants g) accepted is =
-        sym (append-assoc (mugged-in (h .made)) (h .state .execution .muggable) (withdrawn-deques g (h .state .execution .deques)))
+    go (grants g) accepted is = granted g
     go (ticks choices) accepted is = tick-in-order plan choices h is ∙ sym (append-nil (so-far h))
+    go (offers g) accepted is = sym (append-nil (so-far h))
+    go (opens c) accepted is = granted c
+    go withdraws accepted is = sym (append-nil (so-far h))
 
 run-in-order : (plan : Plan) (calls : List Call) (h : History) →
     so-far (run-from plan h calls) ≡ so-far h ++ all-withdrawn plan (h .state) calls

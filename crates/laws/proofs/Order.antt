@@ -174,7 +174,7 @@ module _ {plan : Plan} (sound : SoundPlan plan) where
 
   in-order : (calls : List Call) → OrderKept (run plan calls)
   unfolding history-grant grant
-  in-order = run-keeps plan OrderKept order-at-first (λ done g t o. o) order-kept
+  in-order = run-keeps plan OrderKept order-at-first (λ h note o. o) (λ done g t o. o) order-kept
 
   -- a task of the order is one of the plan
   of-plan : (calls : List Call) (t : ℕ) → 1 ≤ ticks-done (run plan calls) t → t < tasks (plan .graph)

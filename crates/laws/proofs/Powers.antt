@@ -12,8 +12,8 @@ use borrow.Author.Tests.{leb-true, leb-false, eqb-true}
 use Rattle.model.specs.Plan.{Growth, Plan, Terms}
 use Rattle.model.specs.Machine.{Wish, State, idle, opened, allotment, finished, ticks-of, fresh, grant, ticked, closes, closed}
 use Rattle.model.specs.Machine.{efficient, satisfied, efficient-now, satisfied-now, lowered, higher, raised, next-wish, desire-at, wish-at}
-use Rattle.model.specs.Machine.{most-workers}
-use Rattle.model.specs.History.{History, ClosedQuantum, none, begun-with, verdict, beginning, history-grant}
+use Rattle.model.specs.Machine.{most-workers, Note}
+use Rattle.model.specs.History.{History, ClosedQuantum, none, begun-with, verdict, beginning, history-noted, history-grant}
 use Rattle.model.specs.Statements.{SoundTerms, ending}
 use Rattle.lists.proofs.Tests.{and-right}
 use Rattle.laws.proofs.Accepted.{GrantAccepted, TickAccepted}
@@ -39,6 +39,11 @@ pub data Phase (h : History) : Type 0 where
 pub phase-start : (plan : Plan) → Phase (beginning plan)
 unfolding beginning fresh
 phase-start plan = between refl refl
+
+pub phase-noted : (h : History) (note : Note) → Phase h → Phase (history-noted note h)
+phase-noted h note (between is-idle no-current) = between is-idle no-current
+phase-noted h note (within t w) =
+    within t (record { ticks-had = w .ticks-had; as-begun = w .as-begun; no-more = w .no-more; used = w .used })
 
 pub phase-granted : (g : ℕ) (h : History) → GrantAccepted g (h .state) → Phase (history-grant g h)
 unfolding history-grant grant

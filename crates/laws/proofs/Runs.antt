@@ -1,16 +1,22 @@
--- How a property is carried through a list of calls, refused ones included: what holds at the beginning, and is kept by every accepted
--- grant and every accepted tick from a history that is reached, holds after every list of calls (`run-keeps`); or with the tick in its two
--- parts, its cycles and, where the quantum closes with it, the quantum's end (`by-moves`). A step of the history is a step of its state.
+-- How a property is carried through a list of calls, refused ones included: what holds at the beginning, does not mind another note, and is
+-- kept by every accepted grant and every accepted tick from a history that is reached, holds after every list of calls (`run-keeps`); or with
+-- the tick in its two parts, its cycles and, where the quantum closes with it, the quantum's end (`by-moves`). An accepted opening is a
+-- withdrawal and an accepted grant, since what the offer was asked holds on while it is noted (`offer-waits`). A step of the history is a step
+-- of its state.
 -- Assumes nothing.
-use mathlib.Core.Path.{_≡_, refl, ap, _∙_}
+use mathlib.Core.Path.{_≡_, refl, sym, ap, subst, _∙_}
 use mathlib.Core.Bool.{Bool, true, false, cond}
 use mathlib.Core.List.{List, [], _∷_, _++_}
 use Prim.Native.Nat.{ℕ}
+use native.Mathlib.Omega.{arith}
 use Rattle.model.specs.Questions.{Answer, accepted, refused, by-answer}
 use Rattle.model.specs.Plan.{Plan}
-use Rattle.model.specs.Machine.{Call, grants, ticks, call-answer, step, moved, tick, ticked, closes, closed, cycles-made}
-use Rattle.model.specs.History.{History, none, verdict, beginning, history-grant, history-tick, history-moved, history-step, run, run-from}
-use Rattle.laws.proofs.Accepted.{GrantAccepted, TickAccepted, grant-accepted, tick-accepted}
+use Rattle.model.specs.Machine.{State, Note, no-offer, offered, fresh, grant, withdraw-offer, open-offer, tick, ticked, closes, closed}
+use Rattle.model.specs.Machine.{cycles-made, Call, grants, ticks, offers, opens, withdraws, call-answer, step, moved}
+use Rattle.model.specs.History.{History, none, verdict, beginning, history-grant, history-tick, history-noted, history-open, history-moved}
+use Rattle.model.specs.History.{history-step, run, run-from}
+use Rattle.laws.proofs.Accepted.{GrantAccepted, TickAccepted, grant-accepted, tick-accepted, offer-asks, open-accepted}
+use Rattle.laws.proofs.Accepted.{grant-fewer, noted-withdraw, tick-note, not-idle}
 
 -- ---- one call more
 
@@ -26,12 +32,15 @@ run-snoc plan calls call = run-from-snoc plan calls (beginning plan) call
 
 -- the history's state makes the state's step
 pub step-state : (plan : Plan) (call : Call) (h : History) → history-step plan call h .state ≡ step plan call (h .state)
-unfolding history-step step history-grant history-tick
+unfolding history-step step history-grant history-tick history-open open-offer
 step-state plan call h = go (call-answer call (h .state))
   where
     move : (c : Call) → history-moved plan c h .state ≡ moved plan c (h .state)
     move (grants g) = refl
     move (ticks choices) = refl
+    move (offers g) = refl
+    move (opens c) = refl
+    move withdraws = refl
 
     go : (a : Answer) → by-answer a (history-moved plan call h) h .state ≡ by-answer a (moved plan call (h .state)) (h .state)
     go accepted = move call
@@ -86,9 +95,92 @@ tick-moves plan P choices h open-still ended = go (closes plan (ticked plan choi
 
 module _ (plan : Plan) (P : History → Type 0)
     (start : P (beginning plan))
+    (moving : (calls : List Call) (call : Call) → call-answer call (run plan calls .state) ≡ accepted → P (run plan calls) →
+    P (history-moved plan call (run plan calls)))
+  where
+    step-keeps : (calls : List Call) (call : Call) → P (run plan calls) → P (history-step plan call (run plan calls))
+    unfolding history-step
+    step-keeps calls call p = go (call-answer call (run plan calls .state)) refl
+      where
+        go : (a : Answer) → call-answer call (run plan calls .state) ≡ a →
+            P (by-answer a (history-moved plan call (run plan calls)) (run plan calls))
+        go accepted answer = moving calls call answer p
+        go (refused n) answer = p
+
+    onward : (done calls : List Call) → P (run plan done) → P (run-from plan (run plan done) calls)
+    unfolding run-from
+    onward done [] p = p
+    onward done (call ∷ calls) p =
+        rw (← run-snoc plan done call) (onward (done ++ call ∷ []) calls (rw run-snoc (step-keeps done call p)))
+
+    by-calls : (calls : List Call) → P (run plan calls)
+    unfolding run run-from
+    by-calls calls = onward [] calls start
+
+-- ---- the note
+
+not-noted : {g : ℕ} → no-offer ≡ offered g → ⊥
+not-noted p = let z : _≡_ {A = ℕ} 0 1 = cc in omega arith
+
+-- while an offer is noted nothing but an opening or a withdrawal moves the job, so that what a grant of the offered count was asked holds on
+abbrev Waits : State → Type 0
+Waits s = (g : ℕ) → s .note ≡ offered g → GrantAccepted g (withdraw-offer s)
+
+waits-moved : (plan : Plan) (call : Call) (h : History) → call-answer call (h .state) ≡ accepted → Waits (h .state) →
+    Waits (history-moved plan call h .state)
+unfolding history-grant history-tick history-open grant
+waits-moved plan (grants n) h answer w g noted =
+    absurd (not-noted (sym (grant-accepted n (h .state) answer .no-note) ∙ noted))
+waits-moved plan (ticks choices) h answer w g noted =
+    let idle-now = w g (sym (tick-note plan choices (h .state)) ∙ noted) .idle-quantum in
+    absurd (not-idle (sym (tick-accepted choices (h .state) answer .open-quantum) ∙ idle-now))
+waits-moved plan (offers n) h answer w g noted =
+    let asked = grant-accepted n (h .state) (offer-asks n (h .state) ∙ answer) in
+    let same : n ≡ g = cc in
+    record {
+      unfinished = asked .unfinished;
+      idle-quantum = asked .idle-quantum;
+      more-quanta = asked .more-quanta;
+      no-note = refl;
+      wanted = omega (arith, asked .wanted, same);
+    }
+waits-moved plan (opens c) h answer w g noted = absurd (not-noted noted)
+waits-moved plan withdraws h answer w g noted = absurd (not-noted noted)
+
+pub offer-waits : (plan : Plan) (calls : List Call) → Waits (run plan calls .state)
+unfolding beginning fresh
+offer-waits plan calls =
+    by-calls plan (λ h. Waits (h .state)) (λ g noted. absurd (not-noted noted))
+    (λ done call answer w. waits-moved plan call (run plan done) answer w)
+    calls
+
+-- a withdrawal of an offer that is noted drops the note
+pub withdrawn : (plan : Plan) (calls : List Call) (g : ℕ) → run plan calls .state .note ≡ offered g →
+    run plan (calls ++ withdraws ∷ []) ≡ history-noted no-offer (run plan calls)
+unfolding history-step
+withdrawn plan calls g noted = run-snoc plan calls withdraws ∙ rw (noted-withdraw (run plan calls .state) noted) refl
+
+-- ---- the induction by what moves a history
+
+module _ (plan : Plan) (P : History → Type 0)
+    (start : P (beginning plan))
+    (noting : (h : History) (note : Note) → P h → P (history-noted note h))
     (granting : (calls : List Call) (g : ℕ) → GrantAccepted g (run plan calls .state) → P (run plan calls) →
     P (history-grant g (run plan calls)))
   where
+    -- an opening is a withdrawal and a grant
+    opening : (calls : List Call) (c : ℕ) → call-answer (opens c) (run plan calls .state) ≡ accepted → P (run plan calls) →
+        P (history-open c (run plan calls))
+    unfolding history-open
+    opening calls c answer p =
+        let offer = open-accepted c (run plan calls .state) answer in
+        let without = withdrawn plan calls (offer .0) (offer .1) in
+        let asked = offer-waits plan calls (offer .0) (offer .1) in
+        subst (λ (h : History). P (history-grant c h)) without
+        (granting (calls ++ withdraws ∷ []) c
+        (subst (λ (h : History). GrantAccepted c (h .state)) (sym without) (grant-fewer _ asked c (offer .2)))
+        (subst P (sym without) (noting (run plan calls) no-offer p)))
+
     module _
         (ticking : (calls : List Call) (choices : List ℕ) → TickAccepted choices (run plan calls .state) → P (run plan calls) →
         P (history-tick plan choices (run plan calls)))
@@ -97,25 +189,12 @@ module _ (plan : Plan) (P : History → Type 0)
             P (history-moved plan call (run plan calls))
         moves-keep calls (grants g) answer p = granting calls g (grant-accepted g (run plan calls .state) answer) p
         moves-keep calls (ticks choices) answer p = ticking calls choices (tick-accepted choices (run plan calls .state) answer) p
-
-        step-keeps : (calls : List Call) (call : Call) → P (run plan calls) → P (history-step plan call (run plan calls))
-        unfolding history-step
-        step-keeps calls call p = go (call-answer call (run plan calls .state)) refl
-          where
-            go : (a : Answer) → call-answer call (run plan calls .state) ≡ a →
-                P (by-answer a (history-moved plan call (run plan calls)) (run plan calls))
-            go accepted answer = moves-keep calls call answer p
-            go (refused n) answer = p
-
-        onward : (done calls : List Call) → P (run plan done) → P (run-from plan (run plan done) calls)
-        unfolding run-from
-        onward done [] p = p
-        onward done (call ∷ calls) p =
-            rw (← run-snoc plan done call) (onward (done ++ call ∷ []) calls (rw run-snoc (step-keeps done call p)))
+        moves-keep calls (offers g) answer p = noting (run plan calls) (offered g) p
+        moves-keep calls (opens c) answer p = opening calls c answer p
+        moves-keep calls withdraws answer p = noting (run plan calls) no-offer p
 
         pub run-keeps : (calls : List Call) → P (run plan calls)
-        unfolding run run-from
-        run-keeps calls = onward [] calls start
+        run-keeps calls = by-calls plan P start moves-keep calls
 
     pub by-moves :
         ((calls : List Call) (choices : List ℕ) → TickAccepted choices (run plan calls .state) → P (run plan calls) →

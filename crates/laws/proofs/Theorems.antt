@@ -15,13 +15,14 @@ use Rattle.model.specs.Thefts.{StealsHalf}
 use Rattle.model.specs.Muggings.{MuggedInTurn}
 use Rattle.model.specs.WholeTicks.{WholeTicks}
 use Rattle.model.specs.Lasting.{TicksAreWork, WorkIsTasks, OnlyFrontsBegun}
+use Rattle.model.specs.Offers.{OfferThenOpen}
 use Rattle.laws.specs.Invariants.{Bounded}
 use Rattle.laws.specs.Reached.{Arranged, Measured, CountsFit, largest-granted}
 use Rattle.laws.specs.Spent.{SpentOnly}
 use Rattle.laws.specs.Meaning.{CountsMean, UsageMeans}
 use Rattle.laws.proofs.PairingLaw.{pairing-of, falls-from-above}
 use Rattle.laws.proofs.MugLimitLaw.{mug-limit-of, mug-bound-of}
-use Rattle.laws.proofs.Accepted.{grant-spent}
+use Rattle.laws.proofs.Accepted.{call-spent}
 use Rattle.laws.proofs.SpentLaw.{spent-of}
 use Rattle.laws.proofs.Carried.{Carried, carried}
 use Rattle.laws.proofs.Carried as Carried
@@ -36,6 +37,7 @@ use Rattle.laws.proofs.Meaning as Meaning
 use Rattle.laws.proofs.Thefts as Thefts
 use Rattle.laws.proofs.Muggings as Muggings
 use Rattle.laws.proofs.WholeTicks as WholeTicks
+use Rattle.laws.proofs.Offers as Offers
 
 module _ {plan : Plan} (sound : SoundPlan plan) (calls : List Call) where
   -- "While a job is unfinished, each tick with a worker granted does at least one work or mug tick."
@@ -133,10 +135,10 @@ module _ {plan : Plan} (sound : SoundPlan plan) (calls : List Call) where
   pub counts-fit : WithinBounds plan → CountsFit (run plan calls .state)
   counts-fit widths = Measures.counts-fit sound widths calls
 
-  -- a grant meets 13 only where every tick of every quantum that may begin is used up: in quanta without a worker, or each with a work or
+  -- a call meets 13 only where every tick of every quantum that may begin is used up: in quanta without a worker, or each with a work or
   -- mug cycle
   pub spent-only : SpentOnly plan (run plan calls)
-  spent-only g answer = spent-of plan (run plan calls) (measured .quanta) (carries .pace) (grant-spent g _ answer)
+  spent-only call answer = spent-of plan (run plan calls) (measured .quanta) (carries .pace) (call-spent call _ answer)
 
   -- work, mug, steal and success count the cycles of their kind among all that the workers made
   pub counts-mean : CountsMean (run plan calls)
@@ -160,3 +162,9 @@ module _ {plan : Plan} (sound : SoundPlan plan) (calls : List Call) where
   -- "In the tick that finishes a job, the workers after the one that finished it shall each count an unsuccessful steal"
   pub whole-ticks : WholeTicks plan calls
   whole-ticks = WholeTicks.whole-ticks plan calls
+
+  -- "An offer of g meets the grant's questions and only notes g. Opening it takes a count up to g and then does what a grant does; opening and
+  -- withdrawing both drop the note": opened it is a grant of the opened count, withdrawn it is nothing; and while it is noted nothing else
+  -- moves the job
+  pub offer-then-open : OfferThenOpen plan calls
+  offer-then-open = Offers.offer-then-open plan calls

@@ -13,7 +13,7 @@ use lib.Seq.{take-all}
 use Rattle.model.specs.Questions.{Answer, accepted, refused, by-answer}
 use Rattle.model.specs.Plan.{Plan, Graph}
 use Rattle.model.specs.Machine.{Execution, State, allotment, finished, fresh, grant, failed-steal, turn, cycles, cycles-made, tick}
-use Rattle.model.specs.Machine.{Call, grants, ticks, call-answer, step, moved}
+use Rattle.model.specs.Machine.{withdraw-offer, open-offer, Call, grants, ticks, offers, opens, withdraws, call-answer, step, moved}
 use Rattle.model.specs.History.{History, beginning, history-step, run, run-from}
 use Rattle.model.specs.WholeTicks.{accepted-calls, granted-ticks, worker-ticks, all-counted, after-workers, with-vain-steals}
 use Rattle.model.specs.WholeTicks.{FinishingTick, WholeTicks}
@@ -51,7 +51,7 @@ run-counts plan calls s = counted-in s + granted-ticks (allotment s) (accepted-c
 
 step-counts : (plan : Plan) (call : Call) (calls : List Call) (s : State) →
     run-counts plan calls (step plan call s) ≡ run-counts plan (call ∷ calls) s
-unfolding run-counts step accepted-calls granted-ticks
+unfolding run-counts step open-offer accepted-calls granted-ticks
 step-counts plan call calls s = go call (call-answer call s) refl
   where
     go : (c : Call) (a : Answer) → call-answer c s ≡ a →
@@ -64,6 +64,9 @@ step-counts plan call calls s = go call (call-answer call s) refl
         let a = tick-accepted choices s is in
         let after = tick plan choices s in
         rw (tick-allotment plan choices s a) (omega (arith, tick-counts plan choices s a))
+    go (offers g) accepted is = refl
+    go (opens c) accepted is = rw (grant-counts c (withdraw-offer s), grant-allotment c (withdraw-offer s)) refl
+    go withdraws accepted is = refl
 
 run-adds-up : (plan : Plan) (calls : List Call) (h : History) → counted-in (run-from plan h calls .state) ≡ run-counts plan calls (h .state)
 unfolding run-from accepted-calls granted-ticks run-counts

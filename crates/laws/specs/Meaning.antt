@@ -4,7 +4,8 @@ use mathlib.Core.List.{List, [], _∷_, _++_}
 use Prim.Native.Nat.{ℕ, _+_}
 use Rattle.model.specs.Questions.{accepted}
 use Rattle.model.specs.Plan.{Plan}
-use Rattle.model.specs.Machine.{Counts, Cycle, works-on, mugs-deque, steals-from, steals-nothing, cycles-made, grants, ticks, call-answer}
+use Rattle.model.specs.Machine.{Counts, Cycle, works-on, mugs-deque, steals-from, steals-nothing, cycles-made}
+use Rattle.model.specs.Machine.{grants, ticks, opens, call-answer}
 use Rattle.model.specs.History.{History, history-step}
 
 -- a cycle counts 1 where it is of the kind, and else 0
@@ -65,11 +66,13 @@ pub record CountsMean (h : History) : Type 0 where
   pub steal : h .state .execution .counts .steals .steal ≡ steals-in (h .made)
   pub success : h .state .execution .counts .successes ≡ successes-in (h .made)
 
--- the nonsteal usage is that of the quantum last opened: 0 after an accepted grant, and after an accepted tick more by the tick's work and
--- mug cycles, which are the cycles that the tick adds to those made
+-- the nonsteal usage is that of the quantum last opened: 0 after an accepted grant or opening, and after an accepted tick more by the tick's
+-- work and mug cycles, which are the cycles that the tick adds to those made
 pub record UsageMeans (plan : Plan) (h : History) : Type 0 where
-  pub opens-at-0 : (g : ℕ) → call-answer (grants g) (h .state) ≡ accepted →
+  pub granted-at-0 : (g : ℕ) → call-answer (grants g) (h .state) ≡ accepted →
       history-step plan (grants g) h .state .execution .counts .usage ≡ 0
+  pub opened-at-0 : (c : ℕ) → call-answer (opens c) (h .state) ≡ accepted →
+      history-step plan (opens c) h .state .execution .counts .usage ≡ 0
   pub grows : (choices : List ℕ) → call-answer (ticks choices) (h .state) ≡ accepted →
       let more = cycles-made (plan .graph) 0 choices (h .state .execution) in
       (history-step plan (ticks choices) h .state .execution .counts .usage

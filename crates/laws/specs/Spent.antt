@@ -1,4 +1,4 @@
--- What a job has used up when a grant of it meets 13: every tick of every quantum that it may begin.
+-- What a job has used up when a call of it meets 13: every tick of every quantum that it may begin.
 use mathlib.Core.Path.{_≡_}
 use mathlib.Core.Bool.{cond}
 use mathlib.Core.List.{List, [], _∷_}
@@ -7,7 +7,7 @@ use lib.Dec.{eqb}
 use lib.ListN.{length}
 use Rattle.model.specs.Questions.{refused}
 use Rattle.model.specs.Plan.{Plan}
-use Rattle.model.specs.Machine.{grants, call-answer, quantum-limit}
+use Rattle.model.specs.Machine.{Call, call-answer, quantum-limit}
 use Rattle.model.specs.History.{ClosedQuantum, History, work-count, mug-count}
 
 -- how many quanta had no worker
@@ -22,6 +22,7 @@ pub record Spent (plan : Plan) (h : History) : Type 0 where
   pub ticks-used : plan .terms .quantum-length * quantum-limit
       ≤ plan .terms .quantum-length * without-workers (h .closed-quanta) + (work-count h + mug-count h)
 
--- a grant meets 13 only then. So it never does of a job with T ticks without a worker where L × quantum-limit > T + W + M
+-- a call, a grant or an offer, meets 13 only then. So it never does of a job with T ticks without a worker where
+-- L × quantum-limit > T + W + M
 abbrev pub SpentOnly : Plan → History → Type 0
-SpentOnly plan h = (g : ℕ) → call-answer (grants g) (h .state) ≡ refused 13 → Spent plan h
+SpentOnly plan h = (call : Call) → call-answer call (h .state) ≡ refused 13 → Spent plan h

@@ -25,10 +25,12 @@ fn refused(answer: CallAnswer) -> u64
         CallAnswer::Finished => 1,
         CallAnswer::QuantumOpen => 1,
         CallAnswer::QuantaSpent => 1,
-        CallAnswer::AboveDesire => 1,
+        CallAnswer::TooManyWorkers => 1,
         CallAnswer::NoQuantum => 1,
         CallAnswer::WrongChoiceCount => 1,
         CallAnswer::BadChoice => 1,
+        CallAnswer::NoOffer => 1,
+        CallAnswer::OfferNoted => 1,
     }
 }
 

@@ -1,4 +1,4 @@
--- A list of 20 words is its 20 words: what holds of every 20 numbers in a row holds of it. So a claim about stores at literal places is
+-- A list of 21 words is its 21 words: what holds of every 21 numbers in a row holds of it. So a claim about stores at literal places is
 -- computed.
 use mathlib.Core.Path.{_≡_, refl, sym, ap, subst, _∙_}
 use mathlib.Core.List.{List, [], _∷_, map}
@@ -20,7 +20,7 @@ tabled words size =
 abbrev pub row-of : (ℕ → ℕ) → List ℕ
 row-of w =
     w 0 ∷ w 1 ∷ w 2 ∷ w 3 ∷ w 4 ∷ w 5 ∷ w 6 ∷ w 7 ∷ w 8 ∷ w 9 ∷ w 10 ∷ w 11 ∷ w 12 ∷ w 13 ∷ w 14 ∷ w 15 ∷ w 16 ∷ w 17 ∷ w 18
-    ∷ w 19 ∷ []
+    ∷ w 19 ∷ w 20 ∷ []
 
 pub by-words : (P : List ℕ → Type 0) → ((w : ℕ → ℕ) → P (row-of w)) → (words : List ℕ) → length words ≡ word-count → P words
 unfolding below

@@ -8,7 +8,7 @@ use Rattle.model.specs.Plan.{Plan}
 use Rattle.model.specs.Machine.{State, Quantum, idle, opened}
 use Rattle.memory.specs.declared.Job.{Job}
 use Rattle.memory.specs.Parts.{Parts, parts}
-use Rattle.memory.specs.Words.{Numbers, numbers-in, terms-in, wish-in, started-in, open-in, ticks-in, begun-in}
+use Rattle.memory.specs.Words.{Numbers, numbers-in, terms-in, wish-in, started-in, open-in, ticks-in, begun-in, note-in}
 use Rattle.memory.specs.Graphs.{graph, durations-view}
 use Rattle.memory.specs.View.{view}
 
@@ -55,4 +55,5 @@ job-state job =
       wish = wish-in (job .words);
       quantum = quantum-view (open-in (job .words)) (ticks-in (job .words));
       begun = begun-in (job .words);
+      note = note-in (job .words);
     }

@@ -1,16 +1,16 @@
--- What each of a job's 20 words is.
+-- What each of a job's 21 words is.
 use mathlib.Core.Path.{_≡_}
 use mathlib.Core.Bool.{Bool, not}
 use mathlib.Core.List.{List}
-use Prim.Native.Nat.{ℕ, _+_, _≤_}
+use Prim.Native.Nat.{ℕ, zero, suc, _+_, _≤_}
 use lib.Dec.{eqb}
 use lib.ListN.{length, getD, set}
 use Rattle.model.specs.Plan.{Growth, growth-with, Terms}
-use Rattle.model.specs.Machine.{Wish}
+use Rattle.model.specs.Machine.{Wish, Note, no-offer, offered}
 
 -- so many words has a job
 abbrev pub word-count : ℕ
-word-count = 20
+word-count = 21
 
 abbrev pub word : List ℕ → ℕ → ℕ
 word words place = getD words place 0
@@ -87,6 +87,17 @@ ticks-in words = word words 16
 
 abbrev pub begun-in : List ℕ → ℕ
 begun-in words = word words 17
+
+-- a number's note: 0 for none, and else the offered count and 1
+abbrev pub note-shown : ℕ → Note
+note-shown zero = no-offer
+note-shown (suc g) = offered g
+
+abbrev pub note-word : ℕ
+note-word = 20
+
+abbrev pub note-in : List ℕ → Note
+note-in words = note-shown (word words note-word)
 
 -- only the numbers of the execution may differ
 pub record SameTail (words words′ : List ℕ) : Type 0 where

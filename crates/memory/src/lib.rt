@@ -4,7 +4,7 @@
 // So many numbers has a job's memory, and so many words it has.
 pub const MEMORY_SIZE: usize = 5376;
 
-pub const WORD_COUNT: usize = 20;
+pub const WORD_COUNT: usize = 21;
 
 pub type Memory = [u16; MEMORY_SIZE];
 
@@ -64,6 +64,8 @@ pub const BEGUN: usize = 17;
 pub const IN_TENTHS: usize = 18;
 
 pub const POWER: usize = 19;
+
+pub const NOTE: usize = 20;
 
 pub struct Job {
     pub memory: Memory,

@@ -244,7 +244,7 @@ task-fields bytes = fields-of bytes 0
 fresh-with : ℕ → State
 fresh-with begun =
     let s = fresh (plan-of plan-a) in
-    record { execution = s .execution; started = s .started; wish = s .wish; quantum = s .quantum; begun = begun }
+    record { execution = s .execution; started = s .started; wish = s .wish; quantum = s .quantum; begun = begun; note = s .note }
 
 -- the refusal's number of a grant in a state, 0 where it is accepted
 grant-number : ℕ → State → List ℕ

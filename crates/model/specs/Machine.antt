@@ -1,4 +1,4 @@
--- Document 01, "Grant", "Tick" and "Round's end": what a job is, and how a grant and a tick move it.
+-- Document 01, "Grant", "Tick" and "Round's end", and request U5's offers: what a job is, and how each call moves it.
 use mathlib.Core.Bool.{Bool, true, false, cond, not, _&&_}
 use mathlib.Core.List.{List, [], _∷_, _++_, tail, reverse}
 use Prim.Native.Nat.{ℕ, suc, _+_, _-_, _*_, _/_, _^_}
@@ -44,12 +44,18 @@ pub record Wish : Type 0 where
   pub power : ℕ  -- k: the wanted count is R to this power, or its whole part
   pub desire : ℕ  -- the wanted count
 
+-- the offer that is noted (request U5)
+pub data Note : Type 0 where
+  no-offer : Note  -- none
+  offered : ℕ → Note  -- one of so many workers
+
 pub record State : Type 0 where
   pub execution : Execution
   pub started : Bool  -- a count above 0 was granted
   pub wish : Wish
   pub quantum : Quantum
   pub begun : ℕ  -- how many quanta (rounds) have begun
+  pub note : Note
 
 -- the granted count: each granted worker has a deque
 abbrev pub allotment : State → ℕ
@@ -76,7 +82,7 @@ no-counts =
       usage = 0;
     }
 
--- "A fresh job wants 1 and has 0 granted." Request U14: "k starts at 0"
+-- "A fresh job wants 1 and has 0 granted." Request U14: "k starts at 0". Request U5: "the note, none at first"
 unfoldable pub fresh : Plan → State
 fresh plan =
     record {
@@ -85,6 +91,7 @@ fresh plan =
       wish = record { power = 0; desire = 1 };
       quantum = idle;
       begun = 0;
+      note = no-offer;
     }
 
 -- ---- Grant
@@ -98,12 +105,17 @@ abbrev pub no-quantum-open : Quantum → Bool
 no-quantum-open idle = true
 no-quantum-open (opened ticks) = false
 
--- "A grant of g", 11 to 14
+abbrev pub none-noted : Note → Bool
+none-noted no-offer = true
+none-noted (offered g) = false
+
+-- "A grant of g", 11 to 14. Request U5: "an offer or grant while one is noted gets 25, after 13 and before 14"
 unfoldable pub grant-questions : ℕ → State → List Question
 grant-questions g s =
     ask (not (finished (s .execution))) 11
     ∷ ask (no-quantum-open (s .quantum)) 12
     ∷ ask (ltb (s .begun) quantum-limit) 13
+    ∷ ask (none-noted (s .note)) 25
     ∷ ask (leb g (s .wish .desire)) 14
     ∷ []
 
@@ -148,7 +160,47 @@ grant g s =
       wish = s .wish;
       quantum = opened 0;
       begun = suc (s .begun);
+      note = s .note;
     }
+
+-- ---- Offer, open and withdraw. Request U5: "Split the grant."
+
+-- the state with another note, and else as it was
+abbrev pub with-note : Note → State → State
+with-note note s =
+    record {
+      execution = s .execution;
+      started = s .started;
+      wish = s .wish;
+      quantum = s .quantum;
+      begun = s .begun;
+      note = note;
+    }
+
+-- what an accepted offer of g does: it "only notes g"
+abbrev pub offer : ℕ → State → State
+offer g s = with-note (offered g) s
+
+-- "An open or a withdrawal, which meets no question but these, with no offer noted gets 24"
+unfoldable pub withdraw-questions : State → List Question
+withdraw-questions s = ask (not (none-noted (s .note))) 24 ∷ []
+
+-- what an accepted withdrawal does: it drops the note, and nothing else
+abbrev pub withdraw-offer : State → State
+withdraw-offer s = with-note no-offer s
+
+-- "Opening it takes a count up to g"
+abbrev pub up-to-offer : ℕ → Note → Bool
+up-to-offer c no-offer = false
+up-to-offer c (offered g) = leb c g
+
+-- the same question, "and an opened count above the offer gets 14"
+unfoldable pub open-questions : ℕ → State → List Question
+open-questions c s = ask (not (none-noted (s .note))) 24 ∷ ask (up-to-offer c (s .note)) 14 ∷ []
+
+-- what an accepted opening of c does: "opening and withdrawing both drop the note", and it "then does what a grant does"
+unfoldable pub open-offer : ℕ → State → State
+open-offer c s = grant c (withdraw-offer s)
 
 -- ---- Tick
 
@@ -320,6 +372,7 @@ ticked plan choices s =
       wish = s .wish;
       quantum = opened (suc (ticks-of (s .quantum)));
       begun = s .begun;
+      note = s .note;
     }
 
 -- ---- Round's end
@@ -383,6 +436,7 @@ closed plan s =
       wish = next-wish (plan .terms .growth) (s .wish) (efficient-now plan s) (satisfied-now s);
       quantum = idle;
       begun = s .begun;
+      note = s .note;
     }
 
 -- what an accepted tick does
@@ -422,14 +476,22 @@ row-of tenths = getD whole-parts (tenths - 12) []
 
 -- ---- a call
 
--- the calls' arguments: "a grant's count or a tick's choices"
+-- the calls' arguments: "a grant's count or a tick's choices". Request U5: "Demand 3's list may now hold offers, openings and withdrawals
+-- too"
 pub data Call : Type 0 where
   grants : ℕ → Call
   ticks : List ℕ → Call
+  offers : ℕ → Call
+  opens : ℕ → Call
+  withdraws : Call
 
+-- "An offer of g meets the grant's questions"
 abbrev pub call-questions : Call → State → List Question
 call-questions (grants g) s = grant-questions g s
 call-questions (ticks choices) s = tick-questions choices s
+call-questions (offers g) s = grant-questions g s
+call-questions (opens c) s = open-questions c s
+call-questions withdraws s = withdraw-questions s
 
 unfoldable pub call-answer : Call → State → Answer
 call-answer call s = first-no (call-questions call s)
@@ -438,8 +500,11 @@ call-answer call s = first-no (call-questions call s)
 abbrev pub moved : Plan → Call → State → State
 moved plan (grants g) s = grant g s
 moved plan (ticks choices) s = tick plan choices s
+moved plan (offers g) s = offer g s
+moved plan (opens c) s = open-offer c s
+moved plan withdraws s = withdraw-offer s
 
--- "11 to 17 return the number and the record unchanged"
+-- "11 to 17 return the number and the record unchanged". Request U5: "Each of these returns the record unchanged, the note too."
 unfoldable pub step : Plan → Call → State → State
 step plan call s = by-answer (call-answer call s) (moved plan call s) s
 

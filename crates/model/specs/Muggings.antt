@@ -7,7 +7,8 @@ use Prim.Native.Nat.{ℕ, _≤_, _<_}
 use lib.ListN.{length, getD}
 use Rattle.model.specs.Questions.{by-answer}
 use Rattle.model.specs.Plan.{Plan}
-use Rattle.model.specs.Machine.{Execution, State, deque-of, fresh, withdrawn-deques, cycle, Call, grants, ticks, call-answer, step}
+use Rattle.model.specs.Machine.{Execution, State, deque-of, fresh, withdrawn-deques, cycle, call-answer, step}
+use Rattle.model.specs.Machine.{Call, grants, ticks, offers, opens, withdraws}
 use Rattle.model.specs.Machine.{Cycle, works-on, mugs-deque, steals-from, steals-nothing}
 use Rattle.model.specs.History.{run}
 
@@ -26,6 +27,9 @@ pub record HighestFirst (g : ℕ) (deques withdrawn : List (List ℕ)) : Type 0 
 abbrev pub withdrawn-by : Call → State → List (List ℕ)
 withdrawn-by (grants g) s = withdrawn-deques g (s .execution .deques)
 withdrawn-by (ticks choices) s = []
+withdrawn-by (offers g) s = []
+withdrawn-by (opens c) s = withdrawn-deques c (s .execution .deques)
+withdrawn-by withdraws s = []
 
 -- the deques that a list of calls withdraws from a state on, grant by grant; a refused grant withdraws none
 unfoldable pub all-withdrawn : Plan → State → List Call → List (List ℕ)

@@ -8,8 +8,8 @@ use Prim.Native.Nat.{ℕ, suc, _+_, _-_, _≤_, _<_}
 use lib.ListN.{length, getD, take}
 use Rattle.model.specs.Questions.{accepted, by-answer}
 use Rattle.model.specs.Plan.{Plan}
-use Rattle.model.specs.Machine.{Counts, Execution, State, allotment, finished, fresh, cycle, cycles, Call, grants, ticks, call-answer}
-use Rattle.model.specs.Machine.{step}
+use Rattle.model.specs.Machine.{Counts, Execution, State, allotment, finished, fresh, cycle, cycles, call-answer, step}
+use Rattle.model.specs.Machine.{Call, grants, ticks, offers, opens, withdraws}
 use Rattle.model.specs.History.{run}
 
 -- ---- the sum of the granted counts
@@ -20,11 +20,15 @@ accepted-calls plan s [] = []
 accepted-calls plan s (call ∷ calls) =
     by-answer (call-answer call s) (call ∷ []) [] ++ accepted-calls plan (step plan call s) calls
 
--- of accepted calls, the sum over the ticks of the count granted at each: the last grant's, and before the first grant so many
+-- of accepted calls, the sum over the ticks of the count granted at each: that of the last grant or opening, and before the first so many.
+-- Request U5: an opening is a grant of the opened count; an offer and a withdrawal grant nothing
 unfoldable pub granted-ticks : ℕ → List Call → ℕ
 granted-ticks granted [] = 0
 granted-ticks granted (grants g ∷ calls) = granted-ticks g calls
 granted-ticks granted (ticks choices ∷ calls) = granted + granted-ticks granted calls
+granted-ticks granted (offers g ∷ calls) = granted-ticks granted calls
+granted-ticks granted (opens c ∷ calls) = granted-ticks c calls
+granted-ticks granted (withdraws ∷ calls) = granted-ticks granted calls
 
 -- "the sum of the granted counts over all accepted ticks": of a fresh job 0 are granted
 abbrev pub worker-ticks : Plan → List Call → ℕ

@@ -9,7 +9,7 @@ pub struct Job {
 
 /// Five numbers of each task, and the ends of the deques.
 const MEMORY: usize = 5 * 1024 + 256;
-const WORDS: usize = 20;
+const WORDS: usize = 21;
 
 #[link(name = "jirvaldo", kind = "static")]
 extern "C" {
@@ -20,6 +20,9 @@ extern "C" {
         words: *mut u64,
     ) -> u8;
     fn jirvaldo_core_grant(memory: *mut u16, words: *mut u64, workers: u64) -> u8;
+    fn jirvaldo_core_offer(words: *mut u64, workers: u64) -> u8;
+    fn jirvaldo_core_open(memory: *mut u16, words: *mut u64, workers: u64) -> u8;
+    fn jirvaldo_core_withdraw(words: *mut u64) -> u8;
     fn jirvaldo_core_tick(
         memory: *mut u16,
         words: *mut u64,
@@ -68,6 +71,18 @@ impl Job {
 
     pub fn grant(&mut self, workers: u64) -> u8 {
         unsafe { jirvaldo_core_grant(self.memory.as_mut_ptr(), self.words.as_mut_ptr(), workers) }
+    }
+
+    pub fn offer(&mut self, workers: u64) -> u8 {
+        unsafe { jirvaldo_core_offer(self.words.as_mut_ptr(), workers) }
+    }
+
+    pub fn open(&mut self, workers: u64) -> u8 {
+        unsafe { jirvaldo_core_open(self.memory.as_mut_ptr(), self.words.as_mut_ptr(), workers) }
+    }
+
+    pub fn withdraw(&mut self) -> u8 {
+        unsafe { jirvaldo_core_withdraw(self.words.as_mut_ptr()) }
     }
 
     pub fn tick(&mut self, choices: &[u8]) -> u8 {

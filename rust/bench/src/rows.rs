@@ -140,14 +140,14 @@ impl<S: Side> Work for Calls<S> {
     }
 }
 
-/// Grants of none, one on each of several jobs.
-struct Withdrawals<S> {
+/// Grants of none, one on each of several jobs; `OFFERED` where each is an offer of 64 workers and an open of none.
+struct Withdrawals<S, const OFFERED: bool> {
     saved: Box<Lined<S>>,
     jobs: Vec<Lined<S>>,
     answers: u64,
 }
 
-impl<S: Side> Work for Withdrawals<S> {
+impl<S: Side, const OFFERED: bool> Work for Withdrawals<S, OFFERED> {
     fn restore(&mut self) {
         for job in &mut self.jobs {
             job.0.clone_from(&self.saved.0);
@@ -155,12 +155,37 @@ impl<S: Side> Work for Withdrawals<S> {
     }
     fn run(&mut self) {
         for job in &mut self.jobs {
-            self.answers += u64::from(job.0.grant(0));
+            if OFFERED {
+                self.answers += u64::from(job.0.offer(64));
+                self.answers += u64::from(job.0.open(0));
+            } else {
+                self.answers += u64::from(job.0.grant(0));
+            }
         }
     }
     fn outcome(&mut self) -> Vec<u8> {
         assert_eq!(self.answers, 0, "no measured call is refused");
         shown(&self.jobs[0].0, &[])
+    }
+}
+
+/// Workers are offered and the offer is withdrawn, many times.
+struct Offers<S> {
+    job: Box<Lined<S>>,
+    answers: u64,
+}
+
+impl<S: Side> Work for Offers<S> {
+    fn restore(&mut self) {}
+    fn run(&mut self) {
+        for _ in 0..REPEATS {
+            self.answers += u64::from(self.job.0.offer(64));
+            self.answers += u64::from(self.job.0.withdraw());
+        }
+    }
+    fn outcome(&mut self) -> Vec<u8> {
+        assert_eq!(self.answers, 0, "no measured call is refused");
+        shown(&self.job.0, &[])
     }
 }
 
@@ -263,11 +288,29 @@ fn calls<S: Side>(scene: &Scene, times: usize) -> Calls<S> {
     }
 }
 
-fn withdrawals<S: Side>(scene: &Scene, count: usize) -> Withdrawals<S> {
+fn withdrawals<S: Side, const OFFERED: bool>(
+    scene: &Scene,
+    count: usize,
+) -> Withdrawals<S, OFFERED> {
     let saved = accepted::<S>(&scene.plan, &scene.before);
     Withdrawals {
         jobs: (0..count).map(|_| (*saved).clone()).collect(),
         saved,
+        answers: 0,
+    }
+}
+
+fn by_grants<S: Side>(scene: &Scene, count: usize) -> Withdrawals<S, false> {
+    withdrawals(scene, count)
+}
+
+fn by_opens<S: Side>(scene: &Scene, count: usize) -> Withdrawals<S, true> {
+    withdrawals(scene, count)
+}
+
+fn offers<S: Side>(scene: &Scene) -> Offers<S> {
+    Offers {
+        job: accepted::<S>(&scene.plan, &scene.before),
         answers: 0,
     }
 }
@@ -339,15 +382,10 @@ pub fn table() -> Vec<Row> {
         ticks("tick-vain-64", &inputs::in_vain(64)),
         ticks("tick-steal-64", &inputs::thieves()),
         ticks("tick-steal-long", &inputs::long_deque()),
-        row!(
-            "grant-withdraw-64",
-            "grant",
-            16,
-            withdrawals,
-            &withdrawn,
-            16
-        ),
+        row!("grant-withdraw-64", "grant", 16, by_grants, &withdrawn, 16),
         row!("grant-and-back-64", "round trip", 50, calls, &withdrawn, 50),
+        row!("offer-withdraw", "pair", REPEATS, offers, &withdrawn),
+        row!("offer-open-64", "pair", 16, by_opens, &withdrawn, 16),
         row!("line", "line", REPEATS, lines, &mixed),
         row!("label", "label", REPEATS, labels, &mixed, short_lines),
         row!("label-4000", "label", REPEATS, labels, &mixed, &long_lines),

@@ -10,6 +10,9 @@ pub trait Side: Clone {
     fn blank() -> Self;
     fn accept(&mut self, plan: &[u8]) -> u8;
     fn grant(&mut self, workers: u64) -> u8;
+    fn offer(&mut self, workers: u64) -> u8;
+    fn open(&mut self, workers: u64) -> u8;
+    fn withdraw(&mut self) -> u8;
     fn tick(&mut self, choices: &[u8]) -> u8;
     fn run_log(&mut self, log: &[u8], refusals: &mut u64) -> u8;
     fn status(&self) -> u8;
@@ -29,6 +32,15 @@ macro_rules! forward {
             }
             fn grant(&mut self, workers: u64) -> u8 {
                 self.grant(workers)
+            }
+            fn offer(&mut self, workers: u64) -> u8 {
+                self.offer(workers)
+            }
+            fn open(&mut self, workers: u64) -> u8 {
+                self.open(workers)
+            }
+            fn withdraw(&mut self) -> u8 {
+                self.withdraw()
             }
             fn tick(&mut self, choices: &[u8]) -> u8 {
                 self.tick(choices)
@@ -90,6 +102,21 @@ impl Second {
     #[inline(never)]
     fn grant(&mut self, workers: u64) -> u8 {
         number(self.job_mut().grant(workers as usize))
+    }
+
+    #[inline(never)]
+    fn offer(&mut self, workers: u64) -> u8 {
+        number(self.job_mut().offer(workers as usize))
+    }
+
+    #[inline(never)]
+    fn open(&mut self, workers: u64) -> u8 {
+        number(self.job_mut().open(workers as usize))
+    }
+
+    #[inline(never)]
+    fn withdraw(&mut self) -> u8 {
+        number(self.job_mut().withdraw())
     }
 
     #[inline(never)]

@@ -1,9 +1,9 @@
 //! The twin against the second implementation, on its generated cases.
 
 use bench::twin::{Job, View};
-use reference::generator::{cases, gentle_cases, Case};
-use reference::log::{run_log_with, Entry};
-use reference::{counters_line, wording, Growth, Job as Reference};
+use reference::generator::{cases, gentle_cases, Case, Random};
+use reference::log::{run_log, run_log_with, Entry};
+use reference::{counters_line, wording, Growth, Job as Reference, Refusal};
 
 /// The reference's job as the twin shows its own.
 fn view(job: &Reference) -> View {
@@ -18,6 +18,7 @@ fn view(job: &Reference) -> View {
             .open_quantum()
             .map(|quantum| (quantum.ticks, quantum.usage)),
         quanta_begun: job.quanta_begun(),
+        offer: job.noted_offer(),
     }
 }
 
@@ -101,6 +102,89 @@ fn generated_cases_of_form_3() {
     });
     let powers = reached.map(|row| row.iter().filter(|&&reached| reached).count());
     assert_eq!(powers, [23, 16, 13, 11, 9, 8, 8, 7, 7]);
+}
+
+fn number<T>(answer: Result<T, Refusal>) -> u8 {
+    answer.err().map_or(0, Refusal::number)
+}
+
+/// A number of workers for a grant, an offer or an open: mostly one that may be accepted.
+fn workers(random: &mut Random, job: &Reference) -> u64 {
+    let desire = job.desire();
+    let most = job.noted_offer().unwrap_or(desire);
+    match random.below(8) {
+        0 => random.next_u64() >> random.below(64),
+        1 => most as u64 + 1,
+        2 | 3 => desire as u64,
+        4 => most as u64,
+        _ => random.below(most + 1) as u64,
+    }
+}
+
+/// One call of the five at random: the twin's answer, and the reference's.
+fn random_call(random: &mut Random, twin: &mut Job, job: &mut Reference) -> (u8, u8) {
+    let workers = workers(random, job);
+    let count = workers as usize;
+    match random.below(8) {
+        0 => (twin.grant(workers), number(job.grant(count))),
+        1 => (twin.offer(workers), number(job.offer(count))),
+        2 => (twin.open(workers), number(job.open(count))),
+        3 => (twin.withdraw(), number(job.withdraw())),
+        _ => {
+            let size = job.allotment() + usize::from(random.chance(8));
+            let most = job.allotment() + usize::from(random.chance(8));
+            let choices: Vec<u8> = (0..size).map(|_| random.below(most) as u8).collect();
+            (twin.tick(&choices), number(job.tick(&choices)))
+        }
+    }
+}
+
+/// Calls of all five kinds, and a log on what they leave, a noted offer or none.
+#[test]
+fn offers_opens_and_withdrawals() {
+    let mut random = Random::new(9);
+    let (mut twin, mut answers, mut noted) = (Job::blank(), [0u32; 29], 0);
+    for case in cases(13).take(2_000).chain(gentle_cases(13).take(1_000)) {
+        let mut job = match Reference::accept(&case.plan) {
+            Ok(job) => job,
+            Err(_) => continue,
+        };
+        assert_eq!(twin.accept(&case.plan), 0);
+        for _ in 0..random.between(1, 100) {
+            let (here, there) = random_call(&mut random, &mut twin, &mut job);
+            assert_eq!(here, there);
+            assert_eq!(twin.view(), view(&job));
+            answers[usize::from(here)] += 1;
+        }
+        noted += u32::from(job.noted_offer().is_some());
+        let mut refused = 7;
+        let outcome = run_log(&mut job, &case.log);
+        let broken = twin.run_log(&case.log, &mut refused);
+        let expected = outcome.broken.map_or(0, |r| r.number());
+        assert_eq!((broken, refused), (expected, outcome.refused));
+        assert_eq!(twin.view(), view(&job));
+        same_texts(&twin, &job, refused, &case.sheet, case.buffer);
+    }
+    let met = [0, 11, 12, 14, 15, 16, 17, 24, 25].map(|number| answers[number]);
+    assert!(
+        noted > 100 && met.iter().all(|&n| n > 100),
+        "{} {:?}",
+        noted,
+        met
+    );
+}
+
+/// The last quantum that may begin can be offered; after it 13 comes, also where 14 would.
+#[test]
+fn an_offer_of_the_last_quantum() {
+    let plan = [0x15, 0x40, 0x00, 0x04, 0x00, 0, 0, 0];
+    let (mut twin, mut refused) = (Job::blank(), 7);
+    assert_eq!(twin.accept(&plan), 0);
+    assert_eq!(twin.run_log(&[0x00, 0x80].repeat(4_095), &mut refused), 0);
+    assert_eq!((refused, twin.offer(1), twin.offer(2)), (0, 0, 25));
+    assert_eq!((twin.open(2), twin.open(0), twin.tick(&[])), (14, 0, 0));
+    assert_eq!((twin.offer(0), twin.offer(u64::MAX)), (13, 13));
+    assert_eq!((twin.open(0), twin.withdraw()), (24, 24));
 }
 
 #[test]

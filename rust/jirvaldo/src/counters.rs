@@ -9,7 +9,7 @@ use std::str;
 use crate::{Status, LINE_BUFFER};
 
 /// The ten numbers of the counters line, in its order. Work, mug and steal cycles add up to the numbers of workers granted at all accepted
-/// ticks.
+/// ticks. An offer and a withdrawal change none of the ten.
 #[derive(Clone, Copy, Debug, PartialEq, Eq)]
 pub struct Counters {
     /// The job's status.
@@ -20,7 +20,7 @@ pub struct Counters {
     pub tasks: u64,
     /// Workers that the job desires next.
     pub desire: u64,
-    /// Workers that the last accepted grant gave.
+    /// Workers that the last accepted grant or open gave.
     pub allotment: u64,
     /// Work cycles: a worker did a tick of a task.
     pub work: u64,

@@ -1,4 +1,5 @@
-//! What a job's memory holds, for consoles and tests: the deques, the worked tasks, the ticks left, the open quantum, the plan.
+//! What a job's memory holds, for consoles and tests: the deques, the worked tasks, the ticks left, the open quantum, the noted offer, the
+//! plan.
 //!
 //! This reads the memory in plain Rust, by the view of `crates/memory/specs/Jobs.antt`, over which the library's promises are
 //! stated. It is written after these definitions and not itself proved.
@@ -31,6 +32,20 @@
 //! assert_eq!((view.duration(0), view.ticks_left(0)), (3, 2));
 //! assert!(!view.is_worked(0));
 //! assert_eq!(view.deque(0).collect::<Vec<_>>(), [0]);
+//! # Ok::<(), jirvaldo::Refusal>(())
+//! ```
+//!
+//! A noted offer:
+//!
+//! ```
+//! use jirvaldo::{inspect::View, Job};
+//!
+//! let mut job = Job::accept(&[0x15, 0x40, 0x00, 0x08, 0x00, 0, 0, 0])?;
+//! assert_eq!(View::of(&job).offer(), None);
+//! job.offer(0)?;
+//! assert_eq!(View::of(&job).offer(), Some(0));
+//! job.withdraw()?;
+//! assert_eq!(View::of(&job).offer(), None);
 //! # Ok::<(), jirvaldo::Refusal>(())
 //! ```
 //!
@@ -219,6 +234,11 @@ impl<'a> View<'a> {
         self.word(17) as u16
     }
 
+    /// The workers of the noted offer, 0 to 64; `None` where none is noted.
+    pub fn offer(self) -> Option<u8> {
+        self.word(20).checked_sub(1).map(|workers| workers as u8)
+    }
+
     /// Work cycles.
     pub fn work(self) -> u64 {
         self.word(3)
@@ -285,6 +305,8 @@ pub struct State {
     pub open_ticks: Option<u16>,
     /// Quanta begun.
     pub quanta_begun: u16,
+    /// The workers of the noted offer; `None` where none is noted.
+    pub offer: Option<u8>,
     /// Work cycles.
     pub work: u64,
     /// Mug cycles.
@@ -329,6 +351,7 @@ impl State {
             started: view.started(),
             open_ticks: view.open_ticks(),
             quanta_begun: view.quanta_begun(),
+            offer: view.offer(),
             work: view.work(),
             mug: view.mug(),
             steal: view.steal(),

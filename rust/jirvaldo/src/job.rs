@@ -8,8 +8,9 @@ use crate::raw::Memory;
 use crate::refusal::{answer, refusal};
 use crate::{Counters, Line, Refusal, Status, LINE_BUFFER};
 
-/// A job: 10,912 bytes of plain data, without pointers. It comes from an accepted plan and is moved by [`grant`](Job::grant),
-/// [`tick`](Job::tick) and [`run_log`](Job::run_log); each call either is accepted whole or is refused by number and changes nothing.
+/// A job: 10,920 bytes of plain data, without pointers. It comes from an accepted plan and is moved by [`grant`](Job::grant), or
+/// [`offer`](Job::offer) and then [`open`](Job::open) or [`withdraw`](Job::withdraw), by [`tick`](Job::tick) and by
+/// [`run_log`](Job::run_log); each call either is accepted whole or is refused by number and changes nothing.
 ///
 /// A clone is a job of its own: the two go on independently. A job is `Send` and `Sync` and the library keeps no state beside it, so
 /// different threads may move different jobs at the same time.
@@ -22,7 +23,7 @@ pub struct Job {
     memory: Memory,
 }
 
-const _: () = assert!(std::mem::size_of::<Job>() == 10_912);
+const _: () = assert!(std::mem::size_of::<Job>() == 10_920);
 
 /// What a log did to a job.
 #[derive(Clone, Copy, Debug, PartialEq, Eq)]
@@ -99,7 +100,8 @@ impl Job {
     ///
     /// # Errors
     /// In this order: [`Finished`](Refusal::Finished) (11), [`QuantumOpen`](Refusal::QuantumOpen) (12),
-    /// [`QuantaSpent`](Refusal::QuantaSpent) (13), [`AboveDesire`](Refusal::AboveDesire) (14). The job is then as it was.
+    /// [`QuantaSpent`](Refusal::QuantaSpent) (13), [`OfferNoted`](Refusal::OfferNoted) (25), [`AboveDesire`](Refusal::AboveDesire) (14).
+    /// The job is then as it was.
     ///
     /// ```
     /// use jirvaldo::{Job, Refusal};
@@ -113,6 +115,75 @@ impl Job {
     #[inline]
     pub fn grant(&mut self, workers: u64) -> Result<(), Refusal> {
         answer(self.memory.grant(workers))
+    }
+
+    /// Offers that many workers, 0 included, and only notes the number: no quantum opens, and no count, deque, desire or status changes.
+    /// While the offer is noted, an [`open`](Job::open) or a [`withdraw`](Job::withdraw) alone moves the job.
+    ///
+    /// # Errors
+    /// A grant's, in the same order: [`Finished`](Refusal::Finished) (11), [`QuantumOpen`](Refusal::QuantumOpen) (12),
+    /// [`QuantaSpent`](Refusal::QuantaSpent) (13), [`OfferNoted`](Refusal::OfferNoted) (25), [`AboveDesire`](Refusal::AboveDesire) (14).
+    /// The job is then as it was.
+    ///
+    /// ```
+    /// use jirvaldo::{Job, Refusal};
+    ///
+    /// let mut job = Job::accept(&[0x15, 0x40, 0x00, 0x08, 0x00, 0, 0, 0])?;
+    /// assert_eq!(job.offer(2), Err(Refusal::AboveDesire));
+    /// assert_eq!(job.offer(1), Ok(()));
+    /// assert_eq!(&*job.line(0), "0 0 1 1 0 0 0 0 0 0"); // as it was
+    /// assert_eq!(job.offer(1), Err(Refusal::OfferNoted));
+    /// assert_eq!(job.grant(2), Err(Refusal::OfferNoted));
+    /// assert_eq!(job.tick(&[]), Err(Refusal::NoQuantumOpen));
+    /// # Ok::<(), Refusal>(())
+    /// ```
+    #[inline]
+    pub fn offer(&mut self, workers: u64) -> Result<(), Refusal> {
+        answer(self.memory.offer(workers))
+    }
+
+    /// Opens the noted offer with that many workers, from 0 to as many as were offered: it drops the offer and does what a
+    /// [`grant`](Job::grant) of this number does. Whether the quantum is satisfied depends on it and not on the offered number.
+    ///
+    /// # Errors
+    /// In this order: [`NoOffer`](Refusal::NoOffer) (24), [`AboveDesire`](Refusal::AboveDesire) (14) where more are opened than were
+    /// offered. The job is then as it was, with its offer.
+    ///
+    /// ```
+    /// use jirvaldo::{Job, Refusal};
+    ///
+    /// let mut job = Job::accept(&[0x15, 0x40, 0x00, 0x08, 0x00, 0, 0, 0])?;
+    /// assert_eq!(job.open(0), Err(Refusal::NoOffer));
+    /// job.offer(1)?;
+    /// assert_eq!(job.open(2), Err(Refusal::AboveDesire));
+    /// assert_eq!(job.open(1), Ok(()));
+    /// assert_eq!(job.allotment(), 1);
+    /// assert_eq!(job.open(1), Err(Refusal::NoOffer));
+    /// # Ok::<(), Refusal>(())
+    /// ```
+    #[inline]
+    pub fn open(&mut self, workers: u64) -> Result<(), Refusal> {
+        answer(self.memory.open(workers))
+    }
+
+    /// Withdraws the noted offer: it is dropped, and nothing else changes.
+    ///
+    /// # Errors
+    /// [`NoOffer`](Refusal::NoOffer) (24). The job is then as it was.
+    ///
+    /// ```
+    /// use jirvaldo::{Job, Refusal};
+    ///
+    /// let mut job = Job::accept(&[0x15, 0x40, 0x00, 0x08, 0x00, 0, 0, 0])?;
+    /// job.offer(1)?;
+    /// assert_eq!(job.withdraw(), Ok(()));
+    /// assert_eq!(job.withdraw(), Err(Refusal::NoOffer));
+    /// assert_eq!(job.grant(1), Ok(()));
+    /// # Ok::<(), Refusal>(())
+    /// ```
+    #[inline]
+    pub fn withdraw(&mut self) -> Result<(), Refusal> {
+        answer(self.memory.withdraw())
     }
 
     /// One tick: each granted worker takes a cycle, in number order. Choice i is the worker from whom worker i steals where it has nothing
@@ -156,6 +227,8 @@ impl Job {
     /// The run's `end` is `Err(Refusal::BrokenEntry)` (18) where the log ends inside an entry: nothing of that entry is done or counted.
     /// A log that moves nothing (empty, cut off in its first entry, or all its calls refused) leaves the job byte for byte as it was.
     ///
+    /// A log has no offers. On a job with a noted one every grant (25) and every tick (15) of the log is refused and counted.
+    ///
     /// ```
     /// use jirvaldo::{Job, Refusal};
     ///
@@ -189,13 +262,13 @@ impl Job {
         self.status() == Status::Finished
     }
 
-    /// The most workers that the next grant may give, 1 to 64.
+    /// The most workers that the next grant may give, or the next offer name, 1 to 64.
     #[inline]
     pub fn desire(&self) -> u64 {
         self.counters(0).desire
     }
 
-    /// How many workers the last accepted grant gave, 0 to 64; a tick needs as many choices.
+    /// How many workers the last accepted grant or open gave, 0 to 64; a tick needs as many choices.
     #[inline]
     pub fn allotment(&self) -> u64 {
         self.counters(0).allotment
@@ -326,6 +399,50 @@ mod tests {
         job.tick(&[1, 0])?;
         refused(&mut job, 11, |j| j.grant(0));
         refused(&mut job, 11, |j| j.tick(&[0, 0]));
+        Ok(())
+    }
+
+    #[test]
+    fn refused_offers_change_no_byte() -> Result<(), Refusal> {
+        let mut job = Job::accept(&PLAN_A)?;
+        refused(&mut job, 24, |j| j.open(0));
+        refused(&mut job, 24, |j| j.withdraw());
+        refused(&mut job, 14, |j| j.offer(2));
+        refused(&mut job, 14, |j| j.offer(u64::MAX));
+        job.offer(1)?;
+        refused(&mut job, 25, |j| j.offer(1));
+        refused(&mut job, 25, |j| j.grant(u64::MAX));
+        refused(&mut job, 15, |j| j.tick(&[]));
+        refused(&mut job, 14, |j| j.open(2));
+        refused(&mut job, 14, |j| j.open(u64::MAX));
+        let noted = job.clone();
+        let run = job.run_log(&[0x00, 0x01, 0x80, 0x81, 0x00]);
+        assert_eq!((run.refused_calls, run.end), (4, Ok(())));
+        assert_eq!(job.memory, noted.memory);
+        job.open(1)?;
+        refused(&mut job, 24, |j| j.open(1));
+        refused(&mut job, 24, |j| j.withdraw());
+        refused(&mut job, 12, |j| j.offer(0));
+        let _ = job.run_log(&[0x81, 0x00, 0x81, 0x00, 0x01, 0x81, 0x00, 0x81, 0x00]);
+        refused(&mut job, 11, |j| j.offer(0));
+        refused(&mut job, 24, |j| j.open(0));
+        refused(&mut job, 24, |j| j.withdraw());
+        Ok(())
+    }
+
+    /// An offer moves the last word alone, and a withdrawal brings it back.
+    #[test]
+    fn an_offer_is_one_word() -> Result<(), Refusal> {
+        let before = Job::accept(&PLAN_A)?;
+        for workers in 0..2 {
+            let mut job = before.clone();
+            job.offer(workers)?;
+            let (words, note) = (job.memory.words(), workers + 1);
+            assert_eq!(words[..20], before.memory.words()[..20]);
+            assert_eq!((words[20], before.memory.words()[20]), (note, 0));
+            job.withdraw()?;
+            assert_eq!(job.memory, before.memory);
+        }
         Ok(())
     }
 

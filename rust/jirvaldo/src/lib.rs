@@ -24,6 +24,27 @@
 //! # }
 //! ```
 //!
+//! A pool that sets workers aside before it is sure makes its grant in two steps: an [offer](Job::offer) only notes a number of workers,
+//! and an [open](Job::open) grants as many or fewer. A [withdrawal](Job::withdraw) drops the offer instead.
+//!
+//! ```
+//! use jirvaldo::{Job, Refusal};
+//!
+//! let mut job = Job::accept(&[0x15, 0x40, 0x00, 0x08, 0x00, 0, 0, 0])?; // one task
+//! job.offer(job.desire())?;
+//! assert_eq!(job.grant(1), Err(Refusal::OfferNoted)); // one offer at a time, and no grant beside it
+//! job.withdraw()?;
+//! job.offer(1)?;
+//! job.open(0)?; // nobody came: a quantum of 0 workers
+//! job.tick(&[])?;
+//! job.tick(&[])?;
+//! job.offer(1)?;
+//! job.open(1)?;
+//! job.tick(&[0])?;
+//! assert!(job.is_finished());
+//! # Ok::<(), Refusal>(())
+//! ```
+//!
 //! In form 2 a task has a fourth byte, its ticks. It stays at the front of its deque until they are done; then it is worked, and its
 //! successors come. A deque that is withdrawn or mugged keeps the ticks that are done.
 //!
@@ -104,7 +125,7 @@ pub const LONGEST_TASK: usize = 255;
 /// The most workers that a job ever desires.
 pub const MOST_WORKERS: usize = 64;
 
-/// The most quanta that a job may begin, those without a worker too. A grant after that is [`Refusal::QuantaSpent`].
+/// The most quanta that a job may begin, those without a worker too. A grant or an offer after that is [`Refusal::QuantaSpent`].
 pub const MOST_QUANTA: usize = 4096;
 
 /// The least size of a buffer for the counters line. The line itself is shorter.

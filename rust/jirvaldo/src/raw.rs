@@ -10,7 +10,7 @@ use crate::{MOST_TASKS, MOST_WORKERS};
 const ENDS: usize = 4 * MOST_WORKERS;
 /// Five numbers of each task, and the deques' ends.
 const PARTS: usize = 5 * MOST_TASKS + ENDS;
-const WORDS: usize = 20;
+const WORDS: usize = 21;
 
 /// The memory of a job, laid out as in C: `include/jirvaldo.h` has the same parts in the same order.
 #[repr(C)]
@@ -30,6 +30,9 @@ extern "C" {
     ) -> u8;
     fn jirvaldo_core_grant(memory: &mut [u16; PARTS], words: &mut [u64; WORDS], workers: u64)
         -> u8;
+    fn jirvaldo_core_offer(words: &mut [u64; WORDS], workers: u64) -> u8;
+    fn jirvaldo_core_open(memory: &mut [u16; PARTS], words: &mut [u64; WORDS], workers: u64) -> u8;
+    fn jirvaldo_core_withdraw(words: &mut [u64; WORDS]) -> u8;
     fn jirvaldo_core_tick(
         memory: &mut [u16; PARTS],
         words: &mut [u64; WORDS],
@@ -88,6 +91,24 @@ impl Memory {
     pub(crate) fn grant(&mut self, workers: u64) -> u8 {
         // SAFETY: the memory holds a job.
         unsafe { jirvaldo_core_grant(&mut self.parts, &mut self.words, workers) }
+    }
+
+    #[inline]
+    pub(crate) fn offer(&mut self, workers: u64) -> u8 {
+        // SAFETY: the memory holds a job.
+        unsafe { jirvaldo_core_offer(&mut self.words, workers) }
+    }
+
+    #[inline]
+    pub(crate) fn open(&mut self, workers: u64) -> u8 {
+        // SAFETY: the memory holds a job.
+        unsafe { jirvaldo_core_open(&mut self.parts, &mut self.words, workers) }
+    }
+
+    #[inline]
+    pub(crate) fn withdraw(&mut self) -> u8 {
+        // SAFETY: the memory holds a job.
+        unsafe { jirvaldo_core_withdraw(&mut self.words) }
     }
 
     #[inline]

@@ -8,9 +8,9 @@ use std::fmt;
 /// Why a call was refused. A refused call changes nothing; only a log that ends inside an entry ([`BrokenEntry`](Refusal::BrokenEntry)) has
 /// done the entries before it.
 ///
-/// Questions are asked in the order of the numbers, and the first one answered with no is the refusal; 28 alone is asked after 8 of the same
-/// task, before 7 of the next one. Numbers 21 and 22 belong to the program `replay` (its input has more than 65,536 bytes; its input ends
-/// before the plan does), so no function here returns them.
+/// Questions are asked in the order of the numbers, and the first one answered with no is the refusal; but 28 is asked after 8 of the same
+/// task, before 7 of the next one, 24 before 14, and 25 after 13 and before 14. Numbers 21 and 22 belong to the program `replay` (its input
+/// has more than 65,536 bytes; its input ends before the plan does), so no function here returns them.
 ///
 /// `Display` is one sentence for a maker, without the number.
 ///
@@ -20,7 +20,10 @@ use std::fmt;
 /// let refusal = Refusal::AboveDesire;
 /// assert_eq!(refusal.number(), 14);
 /// assert_eq!(Refusal::try_from(14), Ok(refusal));
-/// assert_eq!(refusal.to_string(), "more workers are granted than the job desires; grant at most its desire");
+/// assert_eq!(
+///     refusal.to_string(),
+///     "more workers are granted or offered than the job desires, or opened than were offered",
+/// );
 /// ```
 #[derive(Clone, Copy, Debug, PartialEq, Eq, PartialOrd, Ord, Hash)]
 #[repr(u8)]
@@ -45,13 +48,13 @@ pub enum Refusal {
     BadPredecessors = 9,
     /// 10: a task other than the last has no successor.
     LooseEnd = 10,
-    /// 11: the job is finished (asked of a grant and of a tick).
+    /// 11: the job is finished (asked of a grant, of an offer and of a tick).
     Finished = 11,
-    /// 12: a quantum is open (asked of a grant).
+    /// 12: a quantum is open (asked of a grant and of an offer).
     QuantumOpen = 12,
-    /// 13: as many quanta have begun as a job may have, [`MOST_QUANTA`](crate::MOST_QUANTA) (asked of a grant).
+    /// 13: as many quanta have begun as a job may have, [`MOST_QUANTA`](crate::MOST_QUANTA) (asked of a grant and of an offer).
     QuantaSpent = 13,
-    /// 14: more workers are granted than the job desires.
+    /// 14: more workers are granted or offered than the job desires, or opened than were offered.
     AboveDesire = 14,
     /// 15: no quantum is open (asked of a tick).
     NoQuantumOpen = 15,
@@ -65,6 +68,10 @@ pub enum Refusal {
     NoWording = 19,
     /// 20: a buffer for the counters line has fewer than 128 bytes.
     SmallBuffer = 20,
+    /// 24: no offer is noted (asked of an open and of a withdrawal).
+    NoOffer = 24,
+    /// 25: an offer is noted (asked of a grant and of an offer, after 13 and before 14).
+    OfferNoted = 25,
     /// 28: a task's ticks are 0, in a plan of form 2.
     ZeroTicks = 28,
 }
@@ -72,8 +79,8 @@ pub enum Refusal {
 use Refusal::*;
 
 impl Refusal {
-    /// Every refusal, in the order of the numbers, 1 to 20 and 28.
-    pub const ALL: [Refusal; 21] = [
+    /// Every refusal, in the order of the numbers, 1 to 20, 24, 25 and 28.
+    pub const ALL: [Refusal; 23] = [
         Short,
         UnknownForm,
         BadResponsiveness,
@@ -94,10 +101,12 @@ impl Refusal {
         BrokenEntry,
         NoWording,
         SmallBuffer,
+        NoOffer,
+        OfferNoted,
         ZeroTicks,
     ];
 
-    /// The refusal's number, 1 to 20 or 28.
+    /// The refusal's number, 1 to 20, 24, 25 or 28.
     pub const fn number(self) -> u8 {
         self as u8
     }
@@ -128,7 +137,7 @@ impl Refusal {
             QuantumOpen => "a quantum is open; tick until it closes, then grant",
             QuantaSpent => "4,096 quanta have begun, the most that a job may have",
             AboveDesire => {
-                "more workers are granted than the job desires; grant at most its desire"
+                "more workers are granted or offered than the job desires, or opened than were offered"
             }
             NoQuantumOpen => "no quantum is open; a grant opens one",
             WrongChoiceCount => "the tick has not exactly one choice for each granted worker",
@@ -136,6 +145,8 @@ impl Refusal {
             BrokenEntry => "the log ends inside an entry; the entries before it are done",
             NoWording => "the sheet has no line for the job's status; byte 10 ends a line",
             SmallBuffer => "the buffer for the counters line has fewer than 128 bytes",
+            NoOffer => "no offer is noted; offer workers before you open or withdraw",
+            OfferNoted => "an offer is noted; open or withdraw it first",
             ZeroTicks => "a task's ticks are 0; a task lasts at least one tick",
         }
     }
@@ -157,7 +168,7 @@ impl fmt::Display for UnknownNumber {
     fn fmt(&self, out: &mut fmt::Formatter<'_>) -> fmt::Result {
         write!(
             out,
-            "{} is not the number of a refusal, 1 to 20 or 28",
+            "{} is not the number of a refusal, 1 to 20, 24, 25 or 28",
             self.0
         )
     }
@@ -168,7 +179,7 @@ impl Error for UnknownNumber {}
 impl TryFrom<u8> for Refusal {
     type Error = UnknownNumber;
 
-    /// The refusal of a number from 1 to 20, or of 28; every other number is handed back.
+    /// The refusal of a number from 1 to 20, or of 24, 25 or 28; every other number is handed back.
     fn try_from(number: u8) -> Result<Refusal, UnknownNumber> {
         let mut all = Refusal::ALL.into_iter();
         all.find(|refusal| refusal.number() == number)
@@ -185,7 +196,7 @@ pub(crate) fn answer(number: u8) -> Result<(), Refusal> {
     }
 }
 
-/// The refusal that stands for a number of the library, which is from 1 to 20 or 28: the library hands out no others.
+/// The refusal that stands for a number of the library, which is from 1 to 20, or 24, 25 or 28: the library hands out no others.
 #[cold]
 pub(crate) fn refusal(number: u8) -> Refusal {
     Refusal::try_from(number).expect("the archive is this version's")

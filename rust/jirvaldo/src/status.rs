@@ -2,7 +2,7 @@
 
 #![forbid(unsafe_code)]
 
-/// What a job is doing, with the numbers of the counters line and of the label sheet's lines.
+/// What a job is doing, with the numbers of the counters line and of the label sheet's lines. An open is a grant here, and an offer is none.
 #[derive(Clone, Copy, Debug, PartialEq, Eq, PartialOrd, Ord, Hash)]
 #[repr(u8)]
 pub enum Status {

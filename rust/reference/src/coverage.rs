@@ -1,19 +1,22 @@
 //! Counts which refusals and which branches the generated cases reach.
 
+mod offers;
 mod powers;
 
 use std::fmt;
 
+pub use offers::{OfferBranch, Offers, Seen, Watch, OFFER_BRANCHES};
 pub use powers::{Powers, Ratios};
 
 use crate::counters::counters_line;
 use crate::form::{self, FORMS};
-use crate::generator::Case;
+use crate::generator::offers::calls;
+use crate::generator::{Case, Random};
 use crate::growth::Growth;
 use crate::job::{Cycle, GrantReport, Job, TickReport};
 use crate::label::wording;
 use crate::lasting::Tick;
-use crate::log::{run_log_with, Report};
+use crate::log::{run_log_with, Entries, Report};
 use crate::plan::{read_plan, read_plan_with, Plan};
 use crate::program::split_input;
 use crate::quantum::{QuantumEnd, MOST_WORKERS};
@@ -184,6 +187,7 @@ pub struct Coverage {
     statuses: [u64; 4],
     responsiveness: [u64; 8],
     ratios: Ratios,
+    offers: Offers,
     allotments: [u64; MOST_WORKERS + 1],
 }
 
@@ -198,6 +202,7 @@ impl Default for Coverage {
             statuses: [0; 4],
             responsiveness: [0; 8],
             ratios: Ratios::default(),
+            offers: Offers::default(),
             allotments: [0; MOST_WORKERS + 1],
         }
     }
@@ -242,6 +247,11 @@ impl Coverage {
         &self.ratios
     }
 
+    /// What was reached of offers.
+    pub fn offers(&self) -> &Offers {
+        &self.offers
+    }
+
     /// How often each allotment from 0 to 64 was granted.
     pub fn allotments(&self) -> &[u64] {
         &self.allotments
@@ -255,8 +265,28 @@ impl Coverage {
         }
         self.cover_plan(&case.plan);
         match Job::accept(&case.plan) {
-            Ok(job) => self.cover_log(job, case),
+            Ok(job) => {
+                self.cover_offers(job.clone(), &case.log);
+                self.cover_log(job, case);
+            }
             Err(refusal) => self.refuse(refusal),
+        }
+    }
+
+    /// Makes the calls of a log on a fresh job, a quarter of its grants by way of
+    /// offers. Of them 24 and 25 are counted, and what is reached of offers.
+    fn cover_offers(&mut self, mut job: Job, log: &[u8]) {
+        let (mut random, mut watch) = (Random::new(log.len() as u64), Watch::default());
+        for entry in Entries::new(log).filter_map(Result::ok) {
+            for call in calls(&mut random, &job, entry, 64) {
+                let seen = Seen::of(&job);
+                let answer = call.apply(&mut job);
+                self.offers.cover(&mut watch, seen, call, &answer, &job);
+                match answer {
+                    Err(refusal @ (Refusal::NoOffer | Refusal::OfferNoted)) => self.refuse(refusal),
+                    _ => (),
+                }
+            }
         }
     }
 
@@ -515,7 +545,7 @@ impl fmt::Display for Coverage {
         for (r, count) in self.responsiveness.iter().enumerate().skip(2) {
             writeln!(out, "{count:>10}  plans with responsiveness {r}")?;
         }
-        write!(out, "{}", self.ratios)?;
+        write!(out, "{}{}", self.ratios, self.offers)?;
         let counts = self.allotments.iter();
         let reached = counts.filter(|&&count| count > 0).count();
         writeln!(out, "{reached:>10}  different allotments of 0 to 64")?;
@@ -525,11 +555,11 @@ impl fmt::Display for Coverage {
 
 impl Coverage {
     /// How many refusals, branches, bent readings and powers were never
-    /// reached.
+    /// reached, those of offers too.
     pub fn missing(&self) -> usize {
         let counts = self.refusals.iter().chain(&self.branches);
         let counts = counts.chain(&self.readings);
         let missing = counts.filter(|&&count| count == 0).count();
-        missing + self.ratios.missing().len()
+        missing + self.ratios.missing().len() + self.offers.missing().len()
     }
 }

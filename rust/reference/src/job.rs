@@ -1,4 +1,5 @@
-//! The job record: "Grant", "Tick" and the statuses of document 01.
+//! The job record: "Grant", "Tick" and the statuses of document 01, and the
+//! offers of request U5.
 
 use std::collections::VecDeque;
 use std::sync::Arc;
@@ -7,6 +8,7 @@ use crate::counters::DigitCount;
 use crate::form::Reading;
 use crate::growth::{Level, Pace};
 use crate::lasting::{Event, Lasting, Tick};
+use crate::offer::{Judged, Kind, Noting};
 use crate::plan::{read_plan_with, Plan};
 use crate::quantum::{is_efficient, QuantumEnd};
 use crate::refusal::{ask, Refusal};
@@ -38,6 +40,8 @@ pub struct Rules {
     pub lasting: Lasting,
     /// How the desire of a plan in tenths moves.
     pub pace: Pace,
+    /// How offers are noted.
+    pub noting: Noting,
 }
 
 impl Default for Rules {
@@ -51,6 +55,7 @@ impl Default for Rules {
             rest: Rest::default(),
             lasting: Lasting::default(),
             pace: Pace::default(),
+            noting: Noting::default(),
         }
     }
 }
@@ -89,7 +94,8 @@ pub struct OpenQuantum {
 }
 
 /// A job (document 01: job record). Comes from [`Job::accept`] or
-/// [`Job::new`] only, and is moved by [`Job::grant`] and [`Job::tick`] only.
+/// [`Job::new`] only, and is moved by [`Job::grant`] and [`Job::tick`], and by
+/// [`Job::offer`], [`Job::open`] and [`Job::withdraw`] only.
 ///
 /// A finished job keeps its last quantum open as the finishing tick left it:
 /// that tick is counted in `ticks`, its cycles in `usage`.
@@ -102,7 +108,9 @@ pub struct Job {
     muggable: VecDeque<Withdrawn>,
     level: Level,
     quantum: Option<OpenQuantum>,
+    judged: Judged,
     quanta_begun: u32,
+    note: Option<usize>,
     work_cycles: u64,
     mug_cycles: u64,
     steal_cycles: u64,
@@ -111,8 +119,8 @@ pub struct Job {
     rules: Rules,
 }
 
-/// What an accepted grant did.
-#[derive(Clone, Copy, Debug, PartialEq, Eq)]
+/// What an accepted grant or opening did.
+#[derive(Clone, Copy, Debug, Default, PartialEq, Eq)]
 pub struct GrantReport {
     /// Workers that came, with empty deques.
     pub added: usize,
@@ -189,7 +197,9 @@ impl Job {
             deques: Vec::new(),
             muggable: VecDeque::new(),
             quantum: None,
+            judged: Judged::default(),
             quanta_begun: 0,
+            note: None,
             work_cycles: 0,
             mug_cycles: 0,
             steal_cycles: 0,
@@ -287,6 +297,11 @@ impl Job {
         self.quanta_begun
     }
 
+    /// The noted offer, if there is one.
+    pub fn noted_offer(&self) -> Option<usize> {
+        self.note
+    }
+
     /// Work cycles (document 01: work ticks).
     pub fn work_cycles(&self) -> u64 {
         self.work_cycles
@@ -333,10 +348,17 @@ impl Job {
 
 /// Grant.
 impl Job {
-    /// Grants that many workers and opens a quantum, or refuses with 11 to 14
-    /// and changes nothing.
+    /// Grants that many workers and opens a quantum, or refuses with 11 to 13,
+    /// 25 or 14 and changes nothing.
     pub fn grant(&mut self, allotment: usize) -> Result<GrantReport, Refusal> {
-        self.ask_grant(allotment)?;
+        self.enter(Kind::Grant);
+        let asked = self.ask_grant(Kind::Grant, allotment);
+        self.leave(Kind::Grant, asked)?;
+        Ok(self.begin(allotment))
+    }
+
+    /// What a grant does whose questions are answered with yes.
+    fn begin(&mut self, allotment: usize) -> GrantReport {
         let mut report = self.resize(allotment);
         if !self.ever_granted {
             if let Some(deque) = self.deques.first_mut() {
@@ -346,16 +368,30 @@ impl Job {
             }
         }
         self.quantum = Some(OpenQuantum::default());
+        self.judged = self.rules.noting.judged(allotment, allotment);
         self.quanta_begun += 1;
-        Ok(report)
+        report
     }
 
-    fn ask_grant(&self, allotment: usize) -> Result<(), Refusal> {
-        ask(!self.is_finished(), Refusal::JobFinished)?;
-        ask(self.quantum.is_none(), Refusal::QuantumOpen)?;
-        let limit = self.rules.most_quanta;
-        ask(self.quanta_begun < limit, Refusal::QuantaExhausted)?;
-        ask(allotment <= self.desire(), Refusal::GrantAboveDesire)
+    /// The questions of a grant, which an offer meets too.
+    fn ask_grant(&self, kind: Kind, count: usize) -> Result<(), Refusal> {
+        let noting = self.rules.noting;
+        let questions = noting.questions().into_iter();
+        for question in questions.filter(|&question| noting.asks(kind, question)) {
+            ask(self.passes(question, count), question)?;
+        }
+        Ok(())
+    }
+
+    /// The answer to one of them.
+    fn passes(&self, question: Refusal, count: usize) -> bool {
+        match question {
+            Refusal::JobFinished => !self.is_finished(),
+            Refusal::QuantumOpen => self.quantum.is_none(),
+            Refusal::QuantaExhausted => self.quanta_begun < self.rules.most_quanta,
+            Refusal::OfferNoted => self.note.is_none(),
+            _ => count <= self.desire(),
+        }
     }
 
     /// Withdraws workers from `allotment` up, or adds workers with empty
@@ -390,12 +426,105 @@ impl Job {
     }
 }
 
+/// Offer, open and withdraw.
+impl Job {
+    /// Notes an offer of that many workers, or refuses as a grant of them does
+    /// and changes nothing.
+    pub fn offer(&mut self, count: usize) -> Result<(), Refusal> {
+        self.enter(Kind::Offer);
+        let asked = self.ask_grant(Kind::Offer, count);
+        self.leave(Kind::Offer, asked)?;
+        let noting = self.rules.noting;
+        self.note = noting.noted(self.note, count, self.desire());
+        self.overdo(Kind::Offer, count);
+        Ok(())
+    }
+
+    /// Opens the noted offer with that many workers: drops the note and does
+    /// what a grant of them does. Or refuses with 24 or 14 and changes nothing.
+    pub fn open(&mut self, count: usize) -> Result<GrantReport, Refusal> {
+        let asked = self.ask_open(count);
+        let (offered, opened) = self.leave(Kind::Open, asked)?;
+        let noting = self.rules.noting;
+        self.note = noting.left(offered, opened);
+        if opened == 0 && noting == Noting::ZeroOpensNothing {
+            return Ok(GrantReport::default());
+        }
+        let report = self.begin(opened);
+        self.judged = noting.judged(offered, opened);
+        self.quanta_begun -= u32::from(noting == Noting::OpenNotBegun);
+        Ok(report)
+    }
+
+    /// Drops the note, or refuses with 24 and changes nothing.
+    pub fn withdraw(&mut self) -> Result<(), Refusal> {
+        self.ask_too(Kind::Withdraw)?;
+        let noting = self.rules.noting;
+        let asks = noting.asks(Kind::Withdraw, Refusal::NoOffer);
+        ask(self.note.is_some() || !asks, Refusal::NoOffer)?;
+        self.note = self.note.filter(|_| noting == Noting::WithdrawKeeps);
+        self.overdo(Kind::Withdraw, 0);
+        Ok(())
+    }
+
+    /// The questions of an opening; the counts offered and opened if all answers
+    /// are yes.
+    fn ask_open(&self, count: usize) -> Result<(usize, usize), Refusal> {
+        self.ask_too(Kind::Open)?;
+        let (noting, desire) = (self.rules.noting, self.desire());
+        let offered = noting.found(self.note, desire).ok_or(Refusal::NoOffer)?;
+        let opened = noting.opened(offered, count, desire);
+        Ok((offered, opened.ok_or(Refusal::GrantAboveDesire)?))
+    }
+}
+
+/// What calls do beside, by bent rules alone.
+impl Job {
+    /// Before a call, or a log, the note may go.
+    pub(crate) fn enter(&mut self, kind: Kind) {
+        let noting = self.rules.noting;
+        if noting == Noting::DroppedBy(kind) {
+            self.note = None;
+        } else if noting == Noting::OpenedBy(kind) {
+            if let Some(offered) = self.note.take() {
+                self.begin(offered);
+            }
+        }
+    }
+
+    /// Where a call is refused, the note may go. Returns the answer.
+    fn leave<T>(&mut self, kind: Kind, asked: Result<T, Refusal>) -> Result<T, Refusal> {
+        if asked.is_err() && self.rules.noting == Noting::LostBy(kind) {
+            self.note = None;
+        }
+        asked
+    }
+
+    /// A question more, before a call's own.
+    fn ask_too(&self, kind: Kind) -> Result<(), Refusal> {
+        let question = self.rules.noting.asks_too(kind);
+        question.map_or(Ok(()), |question| ask(self.passes(question, 0), question))
+    }
+
+    /// An accepted offer or withdrawal may do more.
+    fn overdo(&mut self, kind: Kind, count: usize) {
+        match self.rules.noting {
+            Noting::Begins(doing) if doing == kind => self.quanta_begun += 1,
+            Noting::Opens(doing) if doing == kind => drop(self.begin(count)),
+            Noting::OfferMoves if kind == Kind::Offer => drop(self.resize(count)),
+            Noting::OfferStarts => self.ever_granted |= count > 0,
+            _ => (),
+        }
+    }
+}
+
 /// Tick.
 impl Job {
     /// Does one tick with one choice of a victim for each granted worker, or
     /// refuses with 11, 15, 16 or 17 and changes nothing. The choices of
     /// workers after the finisher are not looked at beyond 17.
     pub fn tick(&mut self, choices: &[u8]) -> Result<TickReport, Refusal> {
+        self.enter(Kind::Tick);
         let mut quantum = self.ask_tick(choices)?;
         quantum.ticks += 1;
         let mut cycles = Vec::with_capacity(choices.len());
@@ -421,6 +550,7 @@ impl Job {
 
     /// The tick's questions; the open quantum if all answers are yes.
     fn ask_tick(&self, choices: &[u8]) -> Result<OpenQuantum, Refusal> {
+        self.ask_too(Kind::Tick)?;
         ask(!self.is_finished(), Refusal::JobFinished)?;
         let quantum = self.quantum.ok_or(Refusal::NoQuantumOpen)?;
         let allotment = self.allotment();
@@ -566,9 +696,9 @@ impl Job {
             return None;
         }
         let (utilization, length) = (plan.utilization(), plan.quantum_length());
-        let allotment = self.allotment();
-        let efficient = is_efficient(utilization, length, allotment, quantum.usage);
-        let satisfied = allotment == self.desire();
+        let judged = self.judged;
+        let efficient = is_efficient(utilization, length, judged.efficient, quantum.usage);
+        let satisfied = judged.satisfied == self.desire();
         let pace = self.rules.pace;
         let (end, level) = pace.close(plan.growth(), self.level, efficient, satisfied);
         self.level = level;

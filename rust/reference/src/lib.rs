@@ -4,11 +4,12 @@
 //! compared with it.
 //!
 //! Reading order, which is document 01's: [`plan`], [`form`] (the forms of
-//! plans), [`job`] (grant and tick), [`lasting`] (how long a piece stays),
-//! [`withdrawal`] (which orphan is taken first), [`theft`] (what a steal
-//! takes), [`rest`] (what the workers after the finisher count), [`quantum`]
-//! (round's end), [`growth`] (how it moves the desire), [`log`], [`label`],
-//! [`counters`], [`program`].
+//! plans), [`job`] (grant and tick), [`offer`] (the note of an offer),
+//! [`lasting`] (how long a piece stays), [`withdrawal`] (which orphan is taken
+//! first), [`theft`] (what a steal takes), [`rest`] (what the workers after the
+//! finisher count), [`quantum`] (round's end), [`growth`] (how it moves the
+//! desire), [`call`] (the calls as one kind), [`log`], [`label`], [`counters`],
+//! [`program`].
 //! [`generator`] makes random plans and logs from a seed and [`coverage`]
 //! counts what they reach. [`stored`] chooses a set of cases to be kept.
 //!
@@ -16,6 +17,7 @@
 
 #![forbid(unsafe_code)]
 
+pub mod call;
 pub mod counters;
 pub mod coverage;
 pub mod form;
@@ -25,6 +27,7 @@ pub mod job;
 pub mod label;
 pub mod lasting;
 pub mod log;
+pub mod offer;
 pub mod plan;
 pub mod program;
 pub mod quantum;
@@ -34,6 +37,7 @@ pub mod stored;
 pub mod theft;
 pub mod withdrawal;
 
+pub use call::{Answer, Call};
 pub use counters::{counters_line, counters_text, line_size, ten_numbers, DigitCount};
 pub use form::{Asked, Reading, Ticks};
 pub use growth::{Growth, Level, Pace};
@@ -41,6 +45,7 @@ pub use job::{Cycle, GrantReport, Job, OpenQuantum, Rules, Status, TickReport, M
 pub use label::wording;
 pub use lasting::{Lasting, Tick};
 pub use log::{run_log, run_log_with, Entries, Entry, LogOutcome, Report};
+pub use offer::{Judged, Kind, Noting};
 pub use plan::{read_plan, read_plan_with, Plan, Task};
 pub use program::{program_output, program_output_with, split_input};
 pub use quantum::{is_efficient, QuantumEnd};

@@ -1,6 +1,7 @@
 //! The log (document 01: day log).
 
 use crate::job::{GrantReport, Job, TickReport};
+use crate::offer::Kind;
 use crate::plan::split;
 use crate::refusal::Refusal;
 
@@ -66,7 +67,7 @@ impl<'a> Iterator for Entries<'a> {
 /// What is left to say after a log has moved a job.
 #[derive(Clone, Copy, Debug, PartialEq, Eq)]
 pub struct LogOutcome {
-    /// Calls that were refused with 11 to 17.
+    /// Calls that were refused with 11 to 17 or 25.
     pub refused: u64,
     /// Refusal 18 if the log ended inside an entry.
     pub broken: Option<Refusal>,
@@ -87,6 +88,7 @@ where
         refused: 0,
         broken: None,
     };
+    job.enter(Kind::Log);
     for item in Entries::new(log) {
         match item {
             Ok(entry) => {

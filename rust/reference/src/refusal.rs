@@ -29,14 +29,16 @@ pub enum Refusal {
     BufferTooSmall = 20,
     InputTooLong = 21,
     InputTooShort = 22,
+    NoOffer = 24,
+    OfferNoted = 25,
     TicksZero = 28,
 }
 
 use Refusal::*;
 
 impl Refusal {
-    /// Every refusal, in the order of the numbers 1 to 22 and 28.
-    pub const ALL: [Refusal; 23] = [
+    /// Every refusal, in the order of the numbers 1 to 22, 24, 25 and 28.
+    pub const ALL: [Refusal; 25] = [
         PlanTooShort,
         FormUnknown,
         ResponsivenessOutOfRange,
@@ -59,6 +61,8 @@ impl Refusal {
         BufferTooSmall,
         InputTooLong,
         InputTooShort,
+        NoOffer,
+        OfferNoted,
         TicksZero,
     ];
 
@@ -85,7 +89,9 @@ impl Refusal {
             JobFinished => "the job is finished",
             QuantumOpen => "a quantum is open",
             QuantaExhausted => "4,096 quanta have begun",
-            GrantAboveDesire => "the grant is above the desire",
+            GrantAboveDesire => {
+                "more workers are granted or offered than the job desires, or opened than were offered"
+            }
             NoQuantumOpen => "no quantum is open",
             ChoiceCountWrong => "there is not exactly one choice for each granted worker",
             ChoiceOutOfRange => "a choice is not below the allotment",
@@ -94,6 +100,8 @@ impl Refusal {
             BufferTooSmall => "the buffer for the counters line has fewer than 128 bytes",
             InputTooLong => "the program's input has more than 65,536 bytes",
             InputTooShort => "the program's input ends before its plan does",
+            NoOffer => "no offer is noted; offer workers before you open or withdraw",
+            OfferNoted => "an offer is noted; open or withdraw it first",
             TicksZero => "a task lasts 0 ticks",
         }
     }

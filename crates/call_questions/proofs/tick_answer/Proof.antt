@@ -1,5 +1,5 @@
 -- `call_questions::tick_answer` meets its contract: on each way out the tests that were made tell the first "no".
--- The needs that are only searched for are places below 20 and numbers that fit.
+-- The needs that are only searched for are places below 21 and numbers that fit.
 -- Assumes nothing.
 use borrow.Author.Needs.{needs}
 use mathlib.Core.Path.{_≡_, sym, _∙_}

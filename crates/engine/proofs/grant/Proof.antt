@@ -3,16 +3,14 @@
 use mathlib.Core.Path.{_≡_, sym, ap, _∙_}
 use borrow.Author.Needs.{needs}
 use denote.Ref.{now}
-use Rattle.model.specs.Questions.{accepted, first-no}
 use Rattle.model.specs.Machine.{grants, call-answer}
 use Rattle.memory.specs.declared.Job.{Job}
 use Rattle.memory.specs.Jobs.{lent, job-state}
 use Rattle.call_questions.specs.Answers.{answer-of}
-use Rattle.call_questions.specs.Asked.{grant-asked}
 use Rattle.call_questions.proofs.Answers.{refusing}
 use Rattle.call_questions.proofs.Asking.{grant-asking}
+use Rattle.engine.specs.Moves.{Grants}
 use Rattle.engine.proofs.Moving.{refused-moves}
-use Rattle.engine.proofs.Granting.{openable, grantable, granted-moves}
 use Rattle.engine.proofs.grant.Statement.{statement}
 use Rattle.engine.proofs.grant.Tie as tie
 
@@ -27,29 +25,21 @@ answered : (c : tie.After-grant-answer) → answer-of (c .grant-answer .result) 
 answered c = c .grant-answer .ensures ∙ sym (grant-asking (job c) (entry c .pre .2 .kept .done-right) (entry c .args .g))
 
 -- on the accepting way no question refuses
-asked : (c : tie.After-enum-told) → first-no (grant-asked (job (c .before .before) .words) (entry (c .before .before) .args .g)) ≡ accepted
-asked c = sym (c .before .before .grant-answer .ensures) ∙ ap answer-of (c .enum-told .given .1)
+asked : (c : tie.After-enum-told) → Grants (entry (c .before .before) .args .g) (job (c .before .before))
+asked c =
+    let asking = c .before .before in
+    record { a-job = entry asking .pre; accepts-it = sym (answered asking) ∙ ap answer-of (c .enum-told .given .1) }
 
 returns : tie.Need-returns
 returns c = (answered (c .before), refused-moves (c .before .grant-answer .result) (answered (c .before)) (refusing _ (c .match .keys2)))
 
-allot-requires : tie.Need-allot-requires
-allot-requires c κs =
-    let accepting = c .before .before in
-    grantable _ (entry (accepting .before .before) .pre .2) (asked accepting)
-
-open-quantum-requires : tie.Need-open-quantum-requires
-open-quantum-requires c κs =
-    let accepting = c .before .before .before .before in
-    openable _ (entry (accepting .before .before) .pre .2) (asked accepting) (c .before .allot .ensures)
+give-requires : tie.Need-give-requires
+give-requires c κs = asked (c .before .before)
 
 returns-2 : tie.Need-returns-2
 returns-2 c =
-    let accepting = c .before .before .before .before .before in
-    let asking = accepting .before .before in (
-      answered asking,
-      granted-moves _ (entry asking .pre .2) (asked accepting) (c .before .before .allot .ensures) (c .open-quantum .ensures),
-    )
+    let accepting = c .before .before .before in
+    (answered (accepting .before .before), c .give .ensures)
 
 pub grant-spec : {M : Type 1} → statement M
-grant-spec = tie.close (tie.spec (λ c κs. search needs) (λ c. search needs) returns allot-requires open-quantum-requires returns-2)
+grant-spec = tie.close (tie.spec (λ c κs. search needs) (λ c. search needs) returns give-requires returns-2)

@@ -1,4 +1,4 @@
-//! Grant, tick and log.
+//! Grant, offer, open, withdraw, tick and log.
 
 use super::{Job, Numbers, Tables, SIZES, WORKERS};
 
@@ -27,10 +27,45 @@ const fn desires() -> [[u8; 32]; 32] {
 }
 
 impl Job {
-    /// A grant of any number of workers; refused with 11 to 14.
+    /// A grant of any number of workers; refused with 11 to 13, 25 and 14.
     #[inline(never)]
     pub fn grant(&mut self, workers: u64) -> u8 {
         self.numbers.grant(&mut self.tables, workers)
+    }
+
+    /// An offer of any number of workers, which is noted; refused as a grant is.
+    #[inline(never)]
+    pub fn offer(&mut self, workers: u64) -> u8 {
+        let answer = self.numbers.ask_grant(workers);
+        if answer == 0 {
+            self.numbers.note = workers as u8 + 1;
+        }
+        answer
+    }
+
+    /// The noted offer is opened with any number of workers; refused with 24 and 14.
+    #[inline(never)]
+    pub fn open(&mut self, workers: u64) -> u8 {
+        let note = self.numbers.note;
+        if note == 0 {
+            return 24;
+        }
+        if workers >= u64::from(note) {
+            return 14;
+        }
+        self.numbers.note = 0;
+        self.numbers.begin(&mut self.tables, workers as usize);
+        0
+    }
+
+    /// The noted offer is dropped; refused with 24.
+    #[inline(never)]
+    pub fn withdraw(&mut self) -> u8 {
+        if self.numbers.note == 0 {
+            return 24;
+        }
+        self.numbers.note = 0;
+        0
     }
 
     /// A tick with a choice for each granted worker; refused with 11 and 15 to 17.
@@ -67,6 +102,16 @@ impl Job {
 impl Numbers {
     #[inline(always)]
     fn grant(&mut self, tables: &mut Tables, workers: u64) -> u8 {
+        let answer = self.ask_grant(workers);
+        if answer == 0 {
+            self.begin(tables, workers as usize);
+        }
+        answer
+    }
+
+    /// The questions of a grant and of an offer.
+    #[inline(always)]
+    fn ask_grant(&self, workers: u64) -> u8 {
         if self.done == self.tasks {
             return 11;
         }
@@ -76,10 +121,18 @@ impl Numbers {
         if self.begun == MOST_QUANTA {
             return 13;
         }
+        if self.note != 0 {
+            return 25;
+        }
         if workers > u64::from(self.desire) {
             return 14;
         }
-        let granted = workers as usize;
+        0
+    }
+
+    /// A quantum begins with so many workers, at most the desire.
+    #[inline(always)]
+    fn begin(&mut self, tables: &mut Tables, granted: usize) {
         let before = usize::from(self.workers);
         if granted < before {
             // SAFETY: `before` is at most 64.
@@ -97,7 +150,6 @@ impl Numbers {
         self.is_open = true;
         self.ticks = 0;
         self.begun += 1;
-        0
     }
 
     /// The deques of workers `from` up to `to` that are not empty join the end of the muggable ones, the last worker's first.

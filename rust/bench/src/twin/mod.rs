@@ -3,7 +3,7 @@
 //!
 //! It skips bounds checks where an invariant of the job stands for them:
 //! - a task number in `first`, `second`, `ends` or `next` is below 1,024: acceptance checks the first two, and the others hold only those;
-//! - `workers` and `desire` are at most 64, `head` is below 64, `waiting` is at most 64.
+//! - `workers` and `desire` are at most 64, `note` is at most the desire and one more, `head` is below 64, `waiting` is at most 64.
 //!
 //! A task has its ticks left in `left`, and is worked where none are. In a plan of form 1 or 3 a task's first tick is its last, so that a
 //! tick of such a job does not ask for it. The desire is looked up by `responsiveness` and `power`, in plans of all forms.
@@ -61,6 +61,8 @@ struct Numbers {
     utilization: u8,
     desire: u8,
     power: u8,
+    /// The noted offer and one more; 0 where none is noted.
+    note: u8,
     started: bool,
     is_open: bool,
     is_lasting: bool,
@@ -77,6 +79,8 @@ pub struct View {
     pub power: u32,
     pub open_quantum: Option<(u32, u64)>,
     pub quanta_begun: u32,
+    /// The noted offer.
+    pub offer: Option<usize>,
 }
 
 impl Default for Job {
@@ -133,6 +137,7 @@ impl Job {
                 None
             },
             quanta_begun: u32::from(numbers.begun),
+            offer: usize::from(numbers.note).checked_sub(1),
         }
     }
 

@@ -3,14 +3,7 @@
 use jirvaldo::inspect::State;
 use jirvaldo::{Job, Refusal, MOST_QUANTA};
 
-use super::{chain, hex, job, plan_a, wide};
-
-/// The call is refused with this number and leaves the state as it was.
-fn refused(job: &mut Job, number: u8, call: impl FnOnce(&mut Job) -> Result<(), Refusal>) {
-    let before = State::of(job);
-    assert_eq!(call(job).map_err(Refusal::number), Err(number));
-    assert_eq!(State::of(job), before);
-}
+use super::{chain, hex, job, plan_a, refused, wide};
 
 #[test]
 fn every_call_refusal() {

@@ -98,7 +98,7 @@ fn numbers_of_the_tables() {
         .take_while(|line| *line != "};")
         .filter_map(|line| line.trim_end_matches(',').split(" = ").nth(1));
     let named: Vec<&str> = named.collect();
-    assert_eq!(named.len(), 23);
+    assert_eq!(named.len(), 25);
     assert_eq!(numbers(REFERENCE), named);
     assert_eq!(numbers(INTEGRATING), named);
 }

@@ -26,6 +26,7 @@ fn a_fresh_job() {
         started: false,
         open_ticks: None,
         quanta_begun: 0,
+        offer: None,
         work: 0,
         mug: 0,
         steal: 0,

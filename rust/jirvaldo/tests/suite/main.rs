@@ -6,9 +6,11 @@ mod gentle;
 mod header;
 mod inspected;
 mod lasting;
+mod offers;
 mod plans;
 mod shows;
 
+use jirvaldo::inspect::State;
 use jirvaldo::{Job, Refusal};
 
 /// Document 01's Plan A.
@@ -99,4 +101,11 @@ fn plan_a() -> Job {
 /// The number of a plan's refusal, or 0.
 fn number(plan: &[u8]) -> u8 {
     Job::accept(plan).map_or_else(Refusal::number, |_| 0)
+}
+
+/// The call is refused with this number and leaves the state as it was.
+fn refused(job: &mut Job, number: u8, call: impl FnOnce(&mut Job) -> Result<(), Refusal>) {
+    let before = State::of(job);
+    assert_eq!(call(job).map_err(Refusal::number), Err(number));
+    assert_eq!(State::of(job), before);
 }

@@ -9,13 +9,13 @@ use super::{hex, plan_a};
 #[test]
 fn numbers_and_sentences() {
     let numbers: Vec<u8> = Refusal::ALL.iter().map(|r| r.number()).collect();
-    assert_eq!(numbers, (1..=20).chain([28]).collect::<Vec<u8>>());
+    assert_eq!(numbers, (1..=20).chain([24, 25, 28]).collect::<Vec<u8>>());
     let sentences: HashSet<String> = Refusal::ALL.iter().map(|r| r.to_string()).collect();
-    assert_eq!(sentences.len(), 21);
+    assert_eq!(sentences.len(), 23);
     for refusal in Refusal::ALL {
         assert_eq!(Refusal::try_from(refusal.number()), Ok(refusal));
     }
-    for number in [0, 21, 22, 23, 27, 29, 255] {
+    for number in [0, 21, 22, 23, 26, 27, 29, 255] {
         assert_eq!(Refusal::try_from(number), Err(UnknownNumber(number)));
     }
 }

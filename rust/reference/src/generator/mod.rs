@@ -6,6 +6,7 @@ pub mod damage;
 pub mod edges;
 pub mod graph;
 pub mod logs;
+pub mod offers;
 pub mod plans;
 pub mod random;
 

@@ -86,6 +86,7 @@ fn everything_is_reached() {
         .iter()
         .all(|(_, powers)| powers.plans > 50));
     assert_eq!(coverage.ratios().missing(), [""; 0]);
+    assert_eq!(coverage.offers().missing(), [""; 0]);
     assert_eq!(coverage.missing(), 0);
     assert!(coverage.responsiveness()[2..].iter().all(|&n| n > 0));
     assert!(coverage.allotments()[0] > 0 && coverage.allotments()[64] > 0);

@@ -6,6 +6,7 @@ mod generated;
 mod gentle;
 mod lasting;
 mod mechanics;
+mod offers;
 mod properties;
 mod refusals;
 mod stored;

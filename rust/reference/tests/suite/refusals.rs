@@ -11,9 +11,9 @@ use super::{hex, input, job, plan_refusal, LASTING_PLAN_A, PLAN_A};
 #[test]
 fn numbers_and_sentences() {
     let numbers: Vec<u8> = Refusal::ALL.iter().map(|r| r.number()).collect();
-    assert_eq!(numbers, (1..=22).chain([28]).collect::<Vec<u8>>());
-    let shown = Refusal::GrantAboveDesire.to_string();
-    assert_eq!(shown, "14: the grant is above the desire");
+    assert_eq!(numbers, (1..=22).chain([24, 25, 28]).collect::<Vec<u8>>());
+    let shown = Refusal::QuantumOpen.to_string();
+    assert_eq!(shown, "12: a quantum is open");
 }
 
 /// A draft of Plan A with one change.

@@ -11,8 +11,13 @@ use reference::{Cycle, Entries, Growth, Job, Plan, Refusal, Report, Rules, Statu
 const KEPT: &[u8] = include_bytes!("../../../../crates/vectors/stdin");
 const WRITTEN: &str = include_str!("../../../../crates/vectors/stdout");
 
-/// 19 and 20 are not asked by the program.
-const NOT_THE_PROGRAMS: [Refusal; 2] = [Refusal::WordingMissing, Refusal::BufferTooSmall];
+/// 19 and 20 are not asked by the program, and a log has no offers.
+const NOT_THE_PROGRAMS: [Refusal; 4] = [
+    Refusal::WordingMissing,
+    Refusal::BufferTooSmall,
+    Refusal::NoOffer,
+    Refusal::OfferNoted,
+];
 
 /// The kept set's cases.
 fn kept() -> Vec<(&'static [u8], &'static [u8])> {
