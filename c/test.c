@@ -1346,10 +1346,8 @@ static void test_threads(void)
     }
 }
 
-int main(int count, char **arguments)
+static void test_given(void)
 {
-    long rounds = count > 1 ? atol(arguments[1]) : 1000, i;
-    uint64_t seed = 1;
     test_plans();
     test_plans_of_form_2();
     test_plans_of_form_3();
@@ -1377,17 +1375,27 @@ int main(int count, char **arguments)
     test_most_workers(1);
     test_most_workers(3);
     test_threads();
-    for (i = 0; i < rounds; i++) {
-        test_memory(&seed);
-        test_copies(&seed);
-        test_turns(&seed);
-        test_random_plans(&seed);
-        test_random_logs(&seed);
-        test_random_offers(&seed);
-        test_whole_jobs(&seed);
-        test_ticks_of_one(&seed);
-        test_twenty_tenths(&seed);
-    }
+}
+
+static void test_at_random(uint64_t *seed)
+{
+    test_memory(seed);
+    test_copies(seed);
+    test_turns(seed);
+    test_random_plans(seed);
+    test_random_logs(seed);
+    test_random_offers(seed);
+    test_whole_jobs(seed);
+    test_ticks_of_one(seed);
+    test_twenty_tenths(seed);
+}
+
+int main(int count, char **arguments)
+{
+    long rounds = count > 1 ? atol(arguments[1]) : 1000, i;
+    uint64_t seed = 1;
+    test_given();
+    for (i = 0; i < rounds; i++) test_at_random(&seed);
     printf("%lu checks passed\n", checks);
     return 0;
 }

@@ -255,11 +255,11 @@ static inline const char *jirvaldo_sentence(unsigned number)
     case JIRVALDO_PLAN_SUCCESSORS: return "A task's successor is not above the task, is not below N, or is named twice.";
     case JIRVALDO_PLAN_PREDECESSORS: return "A task from 1 up has no predecessor, or more than two.";
     case JIRVALDO_PLAN_LOOSE_END: return "A task before the last has no successor; only the last task may have none.";
-    case JIRVALDO_JOB_FINISHED: return "The job is finished and takes no more grants and ticks.";
-    case JIRVALDO_GRANT_QUANTUM_OPEN: return "A quantum is open; tick until it closes, then grant.";
+    case JIRVALDO_JOB_FINISHED: return "The job is finished and takes no more grants, offers and ticks.";
+    case JIRVALDO_GRANT_QUANTUM_OPEN: return "A quantum is open; tick until it closes, then grant or offer.";
     case JIRVALDO_GRANT_QUANTA_SPENT: return "4,096 quanta have begun, the most that a job may have.";
     case JIRVALDO_GRANT_ABOVE_DESIRE: return "More workers are granted or offered than the job desires, or opened than were offered.";
-    case JIRVALDO_TICK_NO_QUANTUM: return "No quantum is open; a grant opens one.";
+    case JIRVALDO_TICK_NO_QUANTUM: return "No quantum is open; a grant or the opening of an offer opens one.";
     case JIRVALDO_TICK_CHOICE_COUNT: return "The tick has not exactly one choice for each granted worker.";
     case JIRVALDO_TICK_BAD_CHOICE: return "A choice names no granted worker; each has to be below the allotment.";
     case JIRVALDO_LOG_BROKEN: return "The log ends inside an entry; the entries before it are done.";

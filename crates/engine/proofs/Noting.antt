@@ -1,5 +1,5 @@
--- An offer, its opening and its withdrawal of a job that calls reach. The noted offer is one word, and another number there is another note and
--- nothing else. An opening is a withdrawal and then a grant, which is accepted: so says `offer-then-open` of laws.
+-- An offer, its opening and its withdrawal of a job that calls reach. The noted offer is one word, and another number there is another note
+-- and nothing else. An opening is a withdrawal and then a grant, which is accepted: so says `offer-then-open` of laws.
 -- Assumes nothing.
 use mathlib.Core.Path.{_≡_, refl, sym, ap, subst, _∙_}
 use mathlib.Core.List.{List, [], _∷_, _++_}

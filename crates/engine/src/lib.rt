@@ -1,5 +1,5 @@
-// The in-place core of a job: acceptance, a grant, an offer with its opening and withdrawal, and a tick, each in the memory and the words that
-// are lent. Nothing is copied, and a call reads and writes the words that it needs.
+// The in-place core of a job: acceptance, a grant, an offer with its opening and withdrawal, and a tick, each in the memory and the words
+// that are lent. Nothing is copied, and a call reads and writes the words that it needs.
 use call_questions::CallAnswer;
 use memory::Memory;
 use memory::Words;
@@ -84,17 +84,17 @@ pub fn offer(words: &mut Words, g: u64) -> CallAnswer
     requires { ⌜ JobWords (now words) ⌝ }
     ensures { λ r. ⌜ MovesWords (offers g) (now (words .entry)) (now (words .exit)) (answer-of r) ⌝ }
 {
-    let answer = call_questions::grant_answer(words, g);
-    let CallAnswer::Accepted = answer else {
-        return answer;
+    let asked = call_questions::grant_answer(words, g);
+    let CallAnswer::Accepted = asked else {
+        return asked;
     };
     words[memory::NOTE] = g + 1;
-    answer
+    asked
 }
 
 // An opening of the noted offer for c workers: the note is dropped, and then it is a grant of c. It asks 24 and 14 alone: while an offer is
-// noted nothing but an opening or a withdrawal can move the job, so 11 to 13 are still answered by yes (`offer-then-open` of laws). Refused, it
-// changes nothing.
+// noted nothing but an opening or a withdrawal can move the job, so 11 to 13 are still answered by yes (`offer-then-open` of laws).
+// Refused, it changes nothing.
 pub fn open(memory: &mut Memory, words: &mut Words, c: u64) -> CallAnswer
     requires { ⌜ IsJob (job memory words) ⌝ }
     ensures answered { λ r. ⌜ answer-of r ≡ call-answer (opens c) (job-state (job-before memory words)) ⌝ }
@@ -104,7 +104,7 @@ pub fn open(memory: &mut Memory, words: &mut Words, c: u64) -> CallAnswer
     let CallAnswer::Accepted = answer else {
         return answer;
     };
-    words[memory::NOTE] = 0;
+    words[memory::NOTE] = 0; // dropped, and then a grant of c
     give(memory, words, c);
     answer
 }
@@ -119,7 +119,7 @@ pub fn withdraw(words: &mut Words) -> CallAnswer
     let CallAnswer::Accepted = answer else {
         return answer;
     };
-    words[memory::NOTE] = 0;
+    words[memory::NOTE] = 0; // dropped, and nothing else
     answer
 }
 

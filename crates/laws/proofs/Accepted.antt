@@ -1,5 +1,5 @@
--- What is known of a call when its questions let it through, of a job of which 13 refuses a call, of a job with an offer noted, and of a tick
--- by whether the quantum closes with it.
+-- What is known of a call when its questions let it through, of a job of which 13 refuses a call, of a job with an offer noted, and of a
+-- tick by whether the quantum closes with it.
 -- Assumes nothing.
 use mathlib.Core.Path.{_≡_, refl, sym, _∙_}
 use mathlib.Core.Bool.{Bool, true, false, cond}

@@ -1,6 +1,6 @@
--- Request U5: an offer that is opened is a grant of the opened count, one that is withdrawn leaves the history as it was, and while it is noted
--- nothing but an opening or a withdrawal moves the job: a grant of up to the offered count would be accepted without the note (`offer-waits` of
--- Runs), so every grant and offer is refused with 25, every tick with 15, and an opening need not ask 11 to 13.
+-- Request U5: an offer that is opened is a grant of the opened count, one that is withdrawn leaves the history as it was, and while it is
+-- noted nothing but an opening or a withdrawal moves the job: a grant of up to the offered count would be accepted without the note
+-- (`offer-waits` of Runs), so every grant and offer is refused with 25, every tick with 15, and an opening need not ask 11 to 13.
 -- Assumes nothing.
 use mathlib.Core.Path.{_≡_, refl, sym, ap, _∙_}
 use mathlib.Core.List.{List}

@@ -1,8 +1,8 @@
 -- How a property is carried through a list of calls, refused ones included: what holds at the beginning, does not mind another note, and is
--- kept by every accepted grant and every accepted tick from a history that is reached, holds after every list of calls (`run-keeps`); or with
--- the tick in its two parts, its cycles and, where the quantum closes with it, the quantum's end (`by-moves`). An accepted opening is a
--- withdrawal and an accepted grant, since what the offer was asked holds on while it is noted (`offer-waits`). A step of the history is a step
--- of its state.
+-- kept by every accepted grant and every accepted tick from a history that is reached, holds after every list of calls (`run-keeps`); or
+-- with the tick in its two parts, its cycles and, where the quantum closes with it, the quantum's end (`by-moves`). An accepted opening is
+-- a withdrawal and an accepted grant, since what the offer was asked holds on while it is noted (`offer-waits`). A step of the history is a
+-- step of its state.
 -- Assumes nothing.
 use mathlib.Core.Path.{_≡_, refl, sym, ap, subst, _∙_}
 use mathlib.Core.Bool.{Bool, true, false, cond}
@@ -122,7 +122,8 @@ module _ (plan : Plan) (P : History → Type 0)
 not-noted : {g : ℕ} → no-offer ≡ offered g → ⊥
 not-noted p = let z : _≡_ {A = ℕ} 0 1 = cc in omega arith
 
--- while an offer is noted nothing but an opening or a withdrawal moves the job, so that what a grant of the offered count was asked holds on
+-- while an offer is noted nothing but an opening or a withdrawal moves the job, so that what a grant of the offered count was asked holds
+-- on
 abbrev Waits : State → Type 0
 Waits s = (g : ℕ) → s .note ≡ offered g → GrantAccepted g (withdraw-offer s)
 

@@ -163,8 +163,8 @@ module _ {plan : Plan} (sound : SoundPlan plan) (calls : List Call) where
   pub whole-ticks : WholeTicks plan calls
   whole-ticks = WholeTicks.whole-ticks plan calls
 
-  -- "An offer of g meets the grant's questions and only notes g. Opening it takes a count up to g and then does what a grant does; opening and
-  -- withdrawing both drop the note": opened it is a grant of the opened count, withdrawn it is nothing; and while it is noted nothing else
-  -- moves the job
+  -- "An offer of g meets the grant's questions and only notes g. Opening it takes a count up to g and then does what a grant does; opening
+  -- and withdrawing both drop the note": opened it is a grant of the opened count, withdrawn it is nothing; and while it is noted nothing
+  -- else moves the job
   pub offer-then-open : OfferThenOpen plan calls
   offer-then-open = Offers.offer-then-open plan calls

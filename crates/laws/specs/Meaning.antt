@@ -66,8 +66,8 @@ pub record CountsMean (h : History) : Type 0 where
   pub steal : h .state .execution .counts .steals .steal ≡ steals-in (h .made)
   pub success : h .state .execution .counts .successes ≡ successes-in (h .made)
 
--- the nonsteal usage is that of the quantum last opened: 0 after an accepted grant or opening, and after an accepted tick more by the tick's
--- work and mug cycles, which are the cycles that the tick adds to those made
+-- the nonsteal usage is that of the quantum last opened: 0 after an accepted grant or opening, and after an accepted tick more by the
+-- tick's work and mug cycles, which are the cycles that the tick adds to those made
 pub record UsageMeans (plan : Plan) (h : History) : Type 0 where
   pub granted-at-0 : (g : ℕ) → call-answer (grants g) (h .state) ≡ accepted →
       history-step plan (grants g) h .state .execution .counts .usage ≡ 0

@@ -11,9 +11,9 @@ use Rattle.model.specs.Plan
 use Rattle.model.specs.Plan.{Growth, by-factor, by-tenths, Plan, plan-of, plan-answer, form-field, growth-field, utilization-field}
 use Rattle.model.specs.Plan.{quantum-length-field, task-count, count-field, first-field, second-field, duration-field}
 use Rattle.model.specs.Machine
-use Rattle.model.specs.Machine.{State, Call, grants, ticks, call-answer, step, fresh, status, no-quantum-open, ticks-of}
-use Rattle.model.specs.Machine.{grant-questions, stolen-count, efficient, next-wish, wish-at, top-desires, whole-parts}
-use Rattle.model.specs.Machine.{desire-at, most-workers}
+use Rattle.model.specs.Machine.{State, Note, no-offer, offered, with-note, Call, grants, ticks, offers, opens, withdraws, call-answer}
+use Rattle.model.specs.Machine.{step, fresh, status, no-quantum-open, ticks-of, stolen-count, efficient, next-wish, wish-at}
+use Rattle.model.specs.Machine.{top-desires, whole-parts, desire-at, most-workers}
 use native.Mathlib.Omega.{arith}
 use Rattle.model.specs.Statements.{Limit, OneStepLower}
 use Rattle.model.specs.History
@@ -246,9 +246,12 @@ fresh-with begun =
     let s = fresh (plan-of plan-a) in
     record { execution = s .execution; started = s .started; wish = s .wish; quantum = s .quantum; begun = begun; note = s .note }
 
--- the refusal's number of a grant in a state, 0 where it is accepted
+-- the refusal's number of a call in a state, 0 where it is accepted
+call-number : Call → State → List ℕ
+call-number call s = answer-number (call-answer call s) ∷ []
+
 grant-number : ℕ → State → List ℕ
-grant-number g s = answer-number (first-no (grant-questions g s)) ∷ []
+grant-number g s = call-number (grants g) s
 
 quantum-shown : ClosedQuantum → List ℕ
 quantum-shown q = q .wanted ∷ q .granted ∷ cond (q .was-efficient) 1 0 ∷ cond (q .was-satisfied) 1 0 ∷ []
@@ -314,6 +317,27 @@ statuses-from plan s (call ∷ calls) = status s ∷ statuses-from plan (step pl
 -- the status before the first call and after each
 statuses : List ℕ → List Call → List ℕ
 statuses bytes calls = statuses-from (plan-of bytes) (fresh (plan-of bytes)) calls
+
+-- the noted offer: 0, or 1 and its count
+note-shown : Note → List ℕ
+note-shown no-offer = 0 ∷ []
+note-shown (offered g) = 1 ∷ g ∷ []
+
+-- after calls from a state of Plan A: the note, whether a quantum is open, its ticks, and the quanta begun
+state-kept : State → List ℕ
+state-kept s = note-shown (s .note) ++ quantum-kept s ++ (s .begun ∷ [])
+
+kept-from : State → List Call → List ℕ
+kept-from s calls = state-kept (run-calls (plan-of plan-a) calls (record { state = s; refusals = 0 }) .state)
+
+-- the same after calls of a fresh job
+offer-kept : List ℕ → List Call → List ℕ
+offer-kept bytes calls = state-kept (after-calls bytes calls)
+
+-- example 1, with each grant as an offer and its opening
+example-1-offered : List Call
+example-1-offered =
+    offers 1 ∷ opens 1 ∷ ticks (0 ∷ []) ∷ ticks (0 ∷ []) ∷ offers 2 ∷ opens 2 ∷ ticks (0 ∷ 0 ∷ []) ∷ ticks (0 ∷ 0 ∷ []) ∷ []
 
 -- plan reading
 plan-rows : List Row
@@ -543,6 +567,62 @@ grant-rows =
     ∷ row (placed (chain 2 80 1 4) (grants 1 ∷ ticks (0 ∷ []) ∷ grants 2 ∷ [])) (1 ∷ 1 ∷ 0 ∷ [])
     ∷ []
 
+-- request U5: "Split the grant."
+offer-rows : List Row
+offer-rows =
+    -- an offer only notes: no round is open, none has begun, and the ten numbers and the history's rounds stay
+    row (offer-kept plan-a (offers 1 ∷ [])) (1 ∷ 1 ∷ 0 ∷ 0 ∷ 0 ∷ [])
+    ∷ row (counted plan-a (offers 1 ∷ []) ++ history-shown plan-a (offers 1 ∷ [])) (0 ∷ 0 ∷ 4 ∷ 1 ∷ 0 ∷ 0 ∷ 0 ∷ 0 ∷ 0 ∷ 0 ∷ [])
+    -- it meets the grant's questions, 14 too; an offer of 0 is one, and an opening of 0 opens a round
+    ∷ row (flatMap (answered plan-a []) (offers 0 ∷ offers 1 ∷ offers 2 ∷ [])) (0 ∷ 0 ∷ 14 ∷ [])
+    ∷ row (offer-kept plan-a (offers 0 ∷ []) ++ flatMap (answered plan-a (offers 0 ∷ [])) (opens 1 ∷ opens 0 ∷ []))
+    (1 ∷ 0 ∷ 0 ∷ 0 ∷ 0 ∷ 14 ∷ 0 ∷ [])
+    ∷ row (offer-kept plan-a (offers 0 ∷ opens 0 ∷ []) ++ offer-kept plan-a (offers 1 ∷ opens 0 ∷ [])) (0 ∷ 1 ∷ 0 ∷ 1 ∷ 0 ∷ 1 ∷ 0 ∷ 1 ∷ [])
+    -- while one is noted an offer or a grant gets 25, also above the wanted count, and a tick 15; an opened count above the offer gets 14
+    ∷ row (flatMap (answered plan-a (offers 1 ∷ [])) (offers 0 ∷ offers 1 ∷ offers 9 ∷ grants 0 ∷ grants 1 ∷ grants 9 ∷ ticks [] ∷ []))
+    (25 ∷ 25 ∷ 25 ∷ 25 ∷ 25 ∷ 25 ∷ 15 ∷ [])
+    ∷ row (flatMap (answered plan-a (offers 1 ∷ [])) (opens 0 ∷ opens 1 ∷ opens 2 ∷ withdraws ∷ [])) (0 ∷ 0 ∷ 14 ∷ 0 ∷ [])
+    -- with none noted an opening and a withdrawal get 24, whatever else would be asked: at first, of an open round, after the finish
+    ∷ row (flatMap (answered plan-a []) (opens 0 ∷ opens 9 ∷ withdraws ∷ [])) (24 ∷ 24 ∷ 24 ∷ [])
+    ∷ row (flatMap (answered plan-a (offers 1 ∷ opens 1 ∷ [])) (opens 0 ∷ withdraws ∷ offers 1 ∷ [])) (24 ∷ 24 ∷ 12 ∷ [])
+    ∷ row (flatMap (answered (one-task 2) (grants 1 ∷ ticks (0 ∷ []) ∷ [])) (offers 0 ∷ opens 0 ∷ withdraws ∷ [])) (11 ∷ 24 ∷ 24 ∷ [])
+    -- 13 for offers, before 14; and 25 comes after 13, 12 and 11 (no job shows a note then, so these states are made up)
+    ∷ row (flatMap (λ s. call-number (offers 1) s ++ call-number (offers 2) s) (fresh-with 4095 ∷ fresh-with 4096 ∷ []))
+    (0 ∷ 14 ∷ 13 ∷ 13 ∷ [])
+    ∷ row (flatMap (λ s. grant-number 2 (with-note (offered 1) s))
+    (fresh-with 4095 ∷ fresh-with 4096 ∷ after-calls plan-a (grants 1 ∷ [])
+    ∷ after-calls (one-task 2) (grants 1 ∷ ticks (0 ∷ []) ∷ []) ∷ []))
+    (25 ∷ 13 ∷ 12 ∷ 11 ∷ [])
+    -- a refusal keeps the note, whatever call it is
+    ∷ row (offer-kept plan-a (offers 1 ∷ offers 0 ∷ grants 0 ∷ grants 9 ∷ ticks [] ∷ opens 2 ∷ [])) (1 ∷ 1 ∷ 0 ∷ 0 ∷ 0 ∷ [])
+    -- withdrawn it is nothing: no round, and a grant is answered as before
+    ∷ row (offer-kept plan-a (offers 1 ∷ withdraws ∷ [])) (0 ∷ 0 ∷ 0 ∷ 0 ∷ [])
+    ∷ row (flatMap (answered plan-a (offers 0 ∷ withdraws ∷ [])) (grants 1 ∷ grants 2 ∷ opens 0 ∷ [])) (0 ∷ 14 ∷ 24 ∷ [])
+    -- opened it is a grant of the opened count: the deques, the rounds, the sum of the granted counts and the end of example 1
+    ∷ row (offer-kept plan-a (offers 1 ∷ opens 1 ∷ []) ++ placed plan-a (offers 1 ∷ opens 1 ∷ [])) (0 ∷ 1 ∷ 0 ∷ 1 ∷ 1 ∷ 0 ∷ [])
+    ∷ row (placed (seven 1) (grants 1 ∷ ticks (0 ∷ []) ∷ offers 2 ∷ opens 2 ∷ ticks (0 ∷ 0 ∷ []) ∷ offers 1 ∷ opens 0 ∷ []))
+    (1 ∷ 2 ∷ 2 ∷ 3 ∷ 4 ∷ [])
+    ∷ row (counted plan-a example-1-offered ++ sums plan-a example-1-offered) (3 ∷ 4 ∷ 4 ∷ 2 ∷ 2 ∷ 4 ∷ 0 ∷ 2 ∷ 0 ∷ 0 ∷ 6 ∷ 6 ∷ 6 ∷ [])
+    -- "Whether a round is satisfied depends on the count opened": 1 of 2 opened, efficient and not satisfied, and 2 are wanted still; 2 of
+    -- 3 opened, inefficient, and 1 is wanted
+    ∷ row (history-shown (chain 2 80 1 4) (grants 1 ∷ ticks (0 ∷ []) ∷ offers 2 ∷ opens 1 ∷ ticks (0 ∷ []) ∷ []))
+    (1 ∷ 1 ∷ 1 ∷ 1 ∷ 2 ∷ 1 ∷ 1 ∷ 0 ∷ 0 ∷ 1 ∷ [])
+    ∷ row (counted (chain 2 80 1 4) (grants 1 ∷ ticks (0 ∷ []) ∷ offers 2 ∷ opens 1 ∷ ticks (0 ∷ []) ∷ []))
+    (1 ∷ 2 ∷ 4 ∷ 2 ∷ 1 ∷ 2 ∷ 0 ∷ 0 ∷ 0 ∷ 0 ∷ [])
+    ∷ row (history-shown (chain 3 80 1 4) (grants 1 ∷ ticks (0 ∷ []) ∷ offers 3 ∷ opens 2 ∷ ticks (0 ∷ 0 ∷ []) ∷ []))
+    (1 ∷ 1 ∷ 1 ∷ 1 ∷ 3 ∷ 2 ∷ 0 ∷ 0 ∷ 0 ∷ 1 ∷ [])
+    ∷ row (counted (chain 3 80 1 4) (grants 1 ∷ ticks (0 ∷ []) ∷ offers 3 ∷ opens 2 ∷ ticks (0 ∷ 0 ∷ []) ∷ []))
+    (1 ∷ 2 ∷ 4 ∷ 1 ∷ 2 ∷ 2 ∷ 0 ∷ 1 ∷ 0 ∷ 0 ∷ [])
+    -- what was offered is no count granted so far: with 4,095 rounds begun an offer, a withdrawal, and one more offer leave a round to open
+    ∷ row (kept-from (fresh-with 4095) (offers 1 ∷ withdraws ∷ offers 1 ∷ opens 1 ∷ [])) (0 ∷ 1 ∷ 0 ∷ 4096 ∷ [])
+    -- the status goes by what is opened
+    ∷ row (statuses plan-a (offers 1 ∷ opens 1 ∷ ticks (0 ∷ []) ∷ ticks (0 ∷ []) ∷ offers 2 ∷ opens 0 ∷ []))
+    (0 ∷ 0 ∷ 1 ∷ 1 ∷ 1 ∷ 1 ∷ 2 ∷ [])
+    -- "the day log has no other": of a job with a note every call of a log is refused, and the note stays
+    ∷ row (shown-from plan-a (after-calls plan-a (offers 1 ∷ [])) log-1) (0 ∷ 0 ∷ 4 ∷ 1 ∷ 0 ∷ 0 ∷ 0 ∷ 0 ∷ 0 ∷ 6 ∷ [])
+    ∷ row (note-shown (run-log (plan-of plan-a) log-1 (after-calls plan-a (offers 1 ∷ [])) .state .note)) (1 ∷ 1 ∷ [])
+    ∷ []
+
 -- request U8: "Among lines orphaned by the same grant, the highest worker number is now taken first."
 withdrawal-rows : List Row
 withdrawal-rows =
@@ -750,8 +830,8 @@ program-rows =
 
 our-rows : List Row
 our-rows =
-    plan-rows ++ form-rows ++ gentle-rows ++ lasting-rows ++ grant-rows ++ withdrawal-rows ++ tick-rows ++ steal-rows ++ last-tick-rows
-    ++ quantum-rows ++ log-rows ++ program-rows
+    plan-rows ++ form-rows ++ gentle-rows ++ lasting-rows ++ grant-rows ++ offer-rows ++ withdrawal-rows ++ tick-rows ++ steal-rows ++
+    last-tick-rows ++ quantum-rows ++ log-rows ++ program-rows
 
 pub rows : List Row
 rows = document-rows ++ our-rows
@@ -760,25 +840,26 @@ rows = document-rows ++ our-rows
 pub table : failing 0 rows ≡ []
 unfolding same row-holds failing task lasting form-bytes gentle-bytes plan-bytes diamond one-task seven easy-seven wide-seven ten thirteen
     four-lines link chain refusal after-calls quantum-kept shown-from shown answered listed placed labelled desire-after document-rows
-    seven-tasks growth-number header-fields fields-of task-fields fresh-with grant-number quantum-shown current-shown history-shown
-    shown-twice half-of-five three-thieves two-withdrawn four-at-work two-grants three-at-work then-three counted sums statuses-from
-    statuses lasting-diamond one-lasting after-first one-works one-logged ticks-left gentle-diamond gentle-next last-powers from-the-top
-    gentle-chain single-rounds powers-shown plan-rows form-rows gentle-rows lasting-rows grant-rows withdrawal-rows tick-rows steal-rows
-    last-tick-rows quantum-rows log-rows program-rows our-rows rows below every keep member count-set all-set occurrences zeros first-no
-    flatMap Plan.predecessors Plan.number Plan.header Plan.forms Plan.is-form Plan.form-with Plan.form-of Plan.growth-field
-    Plan.utilization-field Plan.quantum-length-field Plan.task-bits Plan.duration-field Plan.successor-fields Plan.plan-of Plan.fields-ok
-    Plan.two-differ Plan.targets-ok Plan.task-questions Plan.all-preceded Plan.one-exit Plan.header-questions Plan.graph-questions
-    Plan.plan-questions Plan.plan-answer Machine.finished Machine.fresh Machine.grant-questions Machine.kept-deques Machine.withdrawn-deques
-    Machine.first-task-placed Machine.grant Machine.tick-questions Machine.cycle-of Machine.ready Machine.released Machine.stolen-count
-    Machine.left-by-steal Machine.taken-by-steal Machine.worked-deque Machine.work-cycle Machine.mug-cycle Machine.successful-steal
-    Machine.failed-steal Machine.cycle Machine.turn-of Machine.turn Machine.cycles Machine.cycles-made Machine.ticked Machine.efficient
-    Machine.satisfied Machine.next-wish Machine.closes Machine.closed Machine.tick Machine.top-desires Machine.whole-parts
-    Machine.call-answer Machine.step Machine.status History.beginning History.history-grant History.history-tick History.history-step
-    History.run-from History.run History.tasks-in WholeTicks.accepted-calls WholeTicks.granted-ticks Log.entries-up-to Log.entries
-    Log.run-calls Log.run-log Log.log-answer Label.lines-from Label.lines Label.label-answer Label.label Counters.decimal-up-to
-    Counters.decimal Counters.spaced Counters.counters Counters.counters-line Counters.counters-answer Counters.buffer-after
-    Digits.first-above Digits.digit-count Program.plan-length Program.plan-part Program.log-part Program.input-questions
-    Program.refused-line Program.log-output Program.program
+    seven-tasks growth-number header-fields fields-of task-fields fresh-with call-number grant-number note-shown state-kept kept-from
+    offer-kept example-1-offered quantum-shown current-shown history-shown shown-twice half-of-five three-thieves two-withdrawn four-at-work
+    two-grants three-at-work then-three counted sums statuses-from statuses lasting-diamond one-lasting after-first one-works one-logged
+    ticks-left gentle-diamond gentle-next last-powers from-the-top gentle-chain single-rounds powers-shown plan-rows form-rows gentle-rows
+    lasting-rows grant-rows offer-rows withdrawal-rows tick-rows steal-rows last-tick-rows quantum-rows log-rows program-rows our-rows rows
+    below every keep member count-set all-set occurrences zeros first-no flatMap Plan.predecessors Plan.number Plan.header Plan.forms
+    Plan.is-form Plan.form-with Plan.form-of Plan.growth-field Plan.utilization-field Plan.quantum-length-field Plan.task-bits
+    Plan.duration-field Plan.successor-fields Plan.plan-of Plan.fields-ok Plan.two-differ Plan.targets-ok Plan.task-questions
+    Plan.all-preceded Plan.one-exit Plan.header-questions Plan.graph-questions Plan.plan-questions Plan.plan-answer Machine.finished
+    Machine.fresh Machine.grant-questions Machine.kept-deques Machine.withdrawn-deques Machine.first-task-placed Machine.grant
+    Machine.withdraw-questions Machine.open-questions Machine.open-offer Machine.tick-questions Machine.cycle-of Machine.ready
+    Machine.released Machine.stolen-count Machine.left-by-steal Machine.taken-by-steal Machine.worked-deque Machine.work-cycle
+    Machine.mug-cycle Machine.successful-steal Machine.failed-steal Machine.cycle Machine.turn-of Machine.turn Machine.cycles
+    Machine.cycles-made Machine.ticked Machine.efficient Machine.satisfied Machine.next-wish Machine.closes Machine.closed Machine.tick
+    Machine.top-desires Machine.whole-parts Machine.call-answer Machine.step Machine.status History.beginning History.history-grant
+    History.history-tick History.history-open History.history-step History.run-from History.run History.tasks-in WholeTicks.accepted-calls
+    WholeTicks.granted-ticks Log.entries-up-to Log.entries Log.run-calls Log.run-log Log.log-answer Label.lines-from Label.lines
+    Label.label-answer Label.label Counters.decimal-up-to Counters.decimal Counters.spaced Counters.counters Counters.counters-line
+    Counters.counters-answer Counters.buffer-after Digits.first-above Digits.digit-count Program.plan-length Program.plan-part
+    Program.log-part Program.input-questions Program.refused-line Program.log-output Program.program
 table = refl
 
 -- examples 3 and 4 by themselves, for a program that meets them from contracts alone: Plan A is accepted, a first grant of 2 is refused by

@@ -168,14 +168,7 @@ grant g s =
 -- the state with another note, and else as it was
 abbrev pub with-note : Note → State → State
 with-note note s =
-    record {
-      execution = s .execution;
-      started = s .started;
-      wish = s .wish;
-      quantum = s .quantum;
-      begun = s .begun;
-      note = note;
-    }
+    record { execution = s .execution; started = s .started; wish = s .wish; quantum = s .quantum; begun = s .begun; note = note }
 
 -- what an accepted offer of g does: it "only notes g"
 abbrev pub offer : ℕ → State → State

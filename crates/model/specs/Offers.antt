@@ -1,5 +1,5 @@
--- Request U5 as a statement: offer first, then open. "An offer of g meets the grant's questions and only notes g. Opening it takes a count up
--- to g and then does what a grant does; opening and withdrawing both drop the note." It is proved in the crate `laws`.
+-- Request U5 as a statement: offer first, then open. "An offer of g meets the grant's questions and only notes g. Opening it takes a count
+-- up to g and then does what a grant does; opening and withdrawing both drop the note." It is proved in the crate `laws`.
 use mathlib.Core.Path.{_≡_}
 use mathlib.Core.List.{List}
 use Prim.Native.Nat.{ℕ, _≤_, _<_}

@@ -80,9 +80,13 @@ fn replaced(
     };
     let log = inputs::short_log(random, &reference);
     let _ = proved.run_log(&log);
+    if random.chance(128) {
+        let _ = proved.offer(random.next_u64() % (proved.desire() + 1));
+    }
     let before = State::of(&proved);
-    totals.replacements += 1;
-    match proved.replace(plan) {
+    let replaced = proved.replace(plan);
+    totals.count_replacement(before.offer.is_some(), replaced.is_ok());
+    match replaced {
         Ok(()) => Ok(Ok(proved)),
         Err(refusal) if State::of(&proved) == before => Ok(Err(refusal)),
         Err(_) => {

@@ -39,6 +39,10 @@ fn numbers(view: View, reference: &Reference) -> Option<Part> {
             "quanta begun",
             u32::from(view.quanta_begun()) == reference.quanta_begun(),
         ),
+        (
+            "offer",
+            view.offer().map(usize::from) == reference.noted_offer(),
+        ),
     ])
 }
 
@@ -106,6 +110,11 @@ fn tasks(view: View, reference: &Reference) -> Option<Part> {
             ages.all(|(age, deque)| view.muggable_deque(age).eq(deque.iter().copied())),
         ),
     ])
+}
+
+/// Whether a job that a call left has the usage that its copy has, that of a closed quantum too.
+pub fn same_usage(proved: &Proved, before: &Proved) -> bool {
+    View::of(proved).usage() == View::of(before).usage()
 }
 
 /// A plan's responsiveness as the reference has it.

@@ -69,6 +69,11 @@ pub fn short_log(random: &mut Random, job: &Reference) -> Vec<u8> {
     guided_log(random, job.clone(), &style)
 }
 
+/// Of 256 grants of a case so many go by way of offers: in some cases none, in some all.
+pub fn offers(random: &mut Random) -> usize {
+    *random.pick(&[0, 0, 16, 64, 256]).unwrap_or(&0)
+}
+
 /// A log with up to four bytes changed, put in or taken out.
 fn edited(random: &mut Random, mut log: Vec<u8>) -> Vec<u8> {
     for _ in 0..random.between(1, 4) {
@@ -84,12 +89,12 @@ fn edited(random: &mut Random, mut log: Vec<u8>) -> Vec<u8> {
     log
 }
 
-/// A number of workers that no log has, or that is hardly ever accepted.
-pub fn odd_grant(random: &mut Random, job: &Reference) -> u64 {
-    let desire = job.desire() as u64;
-    let wraps = [desire + (1 << 8), desire + (1 << 16), desire + (1 << 32)];
+/// A number of workers that no log has, or that is hardly ever accepted, where so many may be granted, offered or opened.
+pub fn odd_count(random: &mut Random, most: usize) -> u64 {
+    let most = most as u64;
+    let wraps = [most + (1 << 8), most + (1 << 16), most + (1 << 32)];
     let others = [65, 127, 128, 255, u64::MAX, u64::MAX - 1, 1 << 63];
-    let near = [desire + 1, random.next_u64()];
+    let near = [most + 1, random.next_u64()];
     let all = [&wraps[..], &others[..], &near[..]].concat();
     *random.pick(&all).unwrap_or(&u64::MAX)
 }

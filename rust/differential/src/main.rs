@@ -2,11 +2,14 @@
 //!
 //! `differential [--calls N] [--seconds T] [--seed S] [--case K]` makes plans and logs from a seed and gives them to both:
 //! - a plan: both accept it, and their plans and fresh states are the same, or both refuse it with the same number;
-//! - a grant or a tick: both give the same answer, and then the whole states are the same: worked tasks, the ticks left of each task, every
-//!   deque and every muggable deque task by task, desire and its power, allotment, quantum and its usage, counts, status and the ten
-//!   counters. After a refused call the reference is also compared with the proved job's copy from before. This is so of every call that
-//!   the last lines count, whatever the plan's size;
-//! - a whole log, run by `run_log` on copies: the same answer, the same count of refused calls and the same whole states at its end;
+//! - a grant, a tick, an offer, an opening or a withdrawal: both give the same answer, and then the whole states are the same: worked
+//!   tasks, the ticks left of each task, every deque and every muggable deque task by task, desire and its power, allotment, quantum and
+//!   its usage, the noted offer, counts, status and the ten counters. After a refused call the reference is also compared with the proved
+//!   job's copy from before. This is so of every call that the last lines count, whatever the plan's size;
+//! - a grant of a log is at times made by way of an offer: it is opened for as many or fewer than offered, or withdrawn and then granted,
+//!   with calls in between that are refused while it is noted;
+//! - a whole log, run by `run_log` on copies, at times while an offer is noted: the same answer, the same count of refused calls and the
+//!   same whole states at its end;
 //! - copies that then take other calls: the originals go on as if there were no copies;
 //! - at random places and at the end of each log: the wording from a random sheet and the counters line in buffers of many sizes, with the
 //!   bytes around it.

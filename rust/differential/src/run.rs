@@ -42,6 +42,9 @@ fn run_case(seed: u64, case: u64, edges: &[Vec<u8>], totals: &mut Totals) -> Res
     })
 }
 
+/// Of 256 grants so many go by way of offers where every quantum is spent.
+const MARATHON_OFFERS: usize = 16;
+
 /// Whether a case spends every quantum that a job may begin.
 fn is_marathon(case: u64) -> bool {
     case % 100 == 0
@@ -80,11 +83,17 @@ fn try_case(
     } else {
         inputs::log(random, &pair.reference)
     };
+    let offers = if is_marathon(case) {
+        MARATHON_OFFERS
+    } else {
+        inputs::offers(random)
+    };
     let mut fresh = pair.clone();
     let mut walk = Walk {
         pair,
         random,
         totals,
+        offers,
     };
     walk.follow(&log)?;
     if random.chance(64) || is_marathon(case) {

@@ -6,8 +6,9 @@ use reference::generator::logs::marathon_log;
 use reference::generator::plans::{gentle_draft, gentle_marathon_draft, marathon_draft};
 use reference::generator::plans::{sound_draft, Draft};
 use reference::generator::Random;
+use reference::offer::{self, Kind, Noting};
 use reference::{form, growth, lasting, rest, theft, withdrawal};
-use reference::{DigitCount, Entries, Lasting, Pace, Rest, Rules, MOST_QUANTA};
+use reference::{DigitCount, Entries, Lasting, Pace, Refusal, Rest, Rules, MOST_QUANTA};
 
 use crate::accept::{answered, fresh};
 use crate::compare::{self, Part};
@@ -65,6 +66,32 @@ fn other_calls_are_found() {
     assert_eq!(part(&[0, 0x80], &[]), Some("quanta begun"));
     assert_eq!(part(&[1, 0x81, 0], &[0, 0x80]), Some("desire"));
     assert_eq!(part(&steal, &vain), Some("successful steals"));
+}
+
+#[test]
+fn other_notes_are_found() {
+    let part = |offer: Option<u64>, other: Option<usize>| {
+        let mut pair = pair(&fork(), &fork());
+        assert!(offer.map_or(true, |workers| pair.proved.offer(workers).is_ok()));
+        assert!(other.map_or(true, |workers| pair.reference.offer(workers).is_ok()));
+        compare::states(&pair.proved, &pair.reference)
+    };
+    for note in [None, Some(0), Some(1)] {
+        assert_eq!(part(note.map(|workers| workers as u64), note), None);
+    }
+    for (offer, other) in [
+        (None, Some(0)),
+        (Some(0), None),
+        (Some(0), Some(1)),
+        (Some(1), Some(0)),
+    ] {
+        assert_eq!(part(offer, other), Some("offer"));
+    }
+    // A job that another plan took the place of has no offer left.
+    let mut used = pair(&fork(), &fork());
+    assert!(used.proved.offer(0).is_ok());
+    let found = fresh(used, &mut Totals::default());
+    assert_eq!(found.err().map(|difference| difference.part), Some("offer"));
 }
 
 #[test]
@@ -148,6 +175,7 @@ fn walked(seed: u64, turn: bool) -> Option<Result<(), Difference>> {
             pair,
             random,
             totals,
+            offers: 64,
         }
         .follow(&log),
     )
@@ -345,6 +373,82 @@ fn another_ratio_is_found() {
     assert_eq!(part(16, &log), Some("desire"));
 }
 
+/// In what the jobs of a generated case first differ where the reference follows that rule of the note, and half of the log's grants go by
+/// way of offers. At the limit the case is one that spends every quantum.
+fn with_noting(noting: Noting, at_the_limit: bool, seed: u64) -> Option<Part> {
+    let random = &mut Random::new(seed);
+    let plan = if at_the_limit {
+        marathon_draft(random)
+    } else {
+        sound_draft(random)
+    };
+    let mut pair = pair(&plan, &plan);
+    let log = if at_the_limit {
+        marathon_log(random, pair.reference.clone())
+    } else {
+        inputs::log(random, &pair.reference)
+    };
+    pair.reference = pair.reference.with_rules(Rules {
+        noting,
+        ..Rules::default()
+    });
+    let totals = &mut Totals::default();
+    let mut walk = Walk {
+        pair,
+        random,
+        totals,
+        offers: 128,
+    };
+    let found = walk.follow(&log).err();
+    found.map(|difference| difference.part)
+}
+
+/// Whether a rule of the note is that some call asks this question, or does not.
+fn is_about(noting: Noting, question: Refusal) -> bool {
+    matches!(noting, Noting::Skips(_, asked) | Noting::AsksToo(_, asked) if asked == question)
+}
+
+#[test]
+fn another_noting_is_found() {
+    for noting in offer::BENT {
+        let at_the_limit = is_about(noting, Refusal::QuantaExhausted);
+        // Not in all: some logs are short, and some never finish their job.
+        let (cases, least) = if at_the_limit { (4, 2) } else { (200, 26) };
+        let parts: Vec<Part> = (0..cases)
+            .filter_map(|seed| with_noting(noting, at_the_limit, seed))
+            .collect();
+        assert!(parts.len() >= least, "{} with {noting:?}", parts.len());
+        let part = part_of(noting);
+        assert!(parts.contains(&part), "{noting:?}: {parts:?}");
+    }
+}
+
+/// In what a rule of the note differs from the request's.
+fn part_of(noting: Noting) -> Part {
+    match noting {
+        Noting::Begins(_) | Noting::OpenNotBegun => "quanta begun",
+        Noting::Opens(_) | Noting::OfferMoves | Noting::OpenedWhole => "allotment",
+        Noting::OfferStarts => "started",
+        Noting::ZeroIsNone | Noting::OpenKeeps | Noting::RestStays | Noting::WithdrawKeeps => {
+            "offer"
+        }
+        Noting::LostBy(_) | Noting::DroppedBy(Kind::Tick) => "job after a refused call",
+        Noting::DroppedBy(Kind::Log) | Noting::OpenedBy(Kind::Log) => "log",
+        Noting::ZeroOpensNothing => "ticks of the open quantum",
+        Noting::SatisfiedByOffer | Noting::EfficientByOffer => "desire",
+        _ => "answer",
+    }
+}
+
+#[test]
+fn the_right_noting_does_not_differ() {
+    // Whether 25 is asked after 13 or before 11 shows in no call: where an offer is noted, 11 to 13 are answered with yes.
+    for noting in [Noting::default(), Noting::AskedFirst] {
+        assert!((0..300).all(|seed| with_noting(noting, false, seed).is_none()));
+        assert_eq!(with_noting(noting, true, 0), None);
+    }
+}
+
 /// How many of so many generated plans are answered otherwise by each bent reading.
 fn read_otherwise(plans: u64) -> Vec<usize> {
     let mut found = vec![0; form::BENT.len()];
@@ -385,6 +489,7 @@ fn lines_with(digits: DigitCount) -> usize {
         pair,
         random,
         totals,
+        offers: 0,
     };
     let found = (0..2_000).filter_map(|_| walk.show_line().err());
     found
@@ -442,6 +547,40 @@ fn a_moved_job_is_found_after_a_refused_call() {
 }
 
 #[test]
+fn a_moved_note_is_found_after_a_refused_call() {
+    let refused = [
+        Call::Grant(0),
+        Call::Grant(2),
+        Call::Offer(0),
+        Call::Offer(2),
+        Call::Tick(&[]),
+        Call::Open(2),
+    ];
+    for call in refused {
+        let mut pair = pair(&fork(), &fork());
+        let totals = &mut Totals::default();
+        assert!(pair.call(Call::Offer(1), totals).is_ok());
+        assert!(pair.clone().call(call, totals).is_ok());
+        assert!(pair.reference.withdraw().is_ok() && pair.reference.offer(0).is_ok());
+        let found = pair.call(call, totals).err();
+        let part = found.map(|difference| difference.part);
+        assert_eq!(part, Some("job after a refused call"), "{call:?}");
+    }
+}
+
+#[test]
+fn a_log_that_finds_another_note_is_found() {
+    let mut pair = pair(&fork(), &fork());
+    let totals = &mut Totals::default();
+    assert!(pair.call(Call::Offer(1), totals).is_ok());
+    assert!(pair.clone().run_log(&[1, 0x81, 0], totals).is_ok());
+    assert_eq!(totals.log_refusals[25], 1);
+    assert!(pair.reference.withdraw().is_ok());
+    let found = pair.run_log(&[1, 0x81, 0], totals).err();
+    assert_eq!(found.map(|difference| difference.part), Some("log"));
+}
+
+#[test]
 fn other_logs_lines_and_wordings_are_found() {
     let mut pair = pair(&fork(), &fork());
     assert!(pair.reference.grant(0).is_ok());
@@ -457,6 +596,7 @@ fn other_logs_lines_and_wordings_are_found() {
         pair,
         random,
         totals,
+        offers: 0,
     };
     let parts: Vec<Part> = (0..50)
         .filter_map(|_| walk.show().err())
@@ -488,6 +628,9 @@ fn a_run_reaches_every_refusal() {
     let numbers = jirvaldo::Refusal::ALL.map(|refusal| usize::from(refusal.number()));
     assert!(numbers.iter().all(|&number| totals.refusals[number] > 0));
     assert!(totals.log_refusals[11..=17].iter().all(|&count| count > 0));
+    assert!(totals.log_refusals[25] > 0 && totals.noted_logs > 0);
+    assert_eq!(totals.offers.missing(), [""; 0]);
+    assert!(totals.noted_replacements.iter().all(|&count| count > 0));
     assert!(totals.responsiveness[2..].iter().all(|&count| count > 0));
     assert!(totals.ratios.iter().all(|(_, powers)| powers.plans > 0));
     assert_eq!(totals.ratios.missing(), [""; 0]);

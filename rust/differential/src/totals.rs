@@ -2,8 +2,8 @@
 
 use std::fmt;
 
-use reference::coverage::{Powers, Ratios};
-use reference::{Cycle, DigitCount, GrantReport, Growth, Plan, Tick, TickReport};
+use reference::coverage::{OfferBranch, Offers, Powers, Ratios};
+use reference::{Cycle, DigitCount, GrantReport, Growth, Plan, Report, Tick, TickReport};
 
 use crate::pair::{Call, Reference};
 
@@ -21,6 +21,8 @@ pub struct Totals {
     pub plans: u64,
     /// Plans that took the place of a used job.
     pub replacements: u64,
+    /// Those of them that came while an offer was noted: accepted, refused.
+    pub noted_replacements: [u64; 2],
     /// Accepted plans of forms 1 and 2 by R.
     pub responsiveness: [u64; 8],
     /// Accepted plans of form 3 by R in tenths, and what all calls reached of their powers.
@@ -29,7 +31,7 @@ pub struct Totals {
     pub lasting: [u64; 2],
     /// Refusals by number; places that are no number are not used.
     pub refusals: [u64; NUMBERS],
-    /// Grants and ticks after each of which the whole states were compared.
+    /// Calls after each of which the whole states were compared.
     pub calls: u64,
     /// Those of them that were refused.
     pub refused_calls: u64,
@@ -49,8 +51,12 @@ pub struct Totals {
     pub behind: u64,
     /// Ticks of all calls that finished a job, by the workers after the finisher: none, one, two, three, or more.
     pub finishes: [u64; 5],
+    /// What all calls reached of offers, openings and withdrawals.
+    pub offers: Offers,
     /// Logs run whole.
     pub logs: u64,
+    /// Those of them that came while an offer was noted.
+    pub noted_logs: u64,
     /// The calls in them; the states were compared at the log's end.
     pub log_calls: u64,
     /// Those of them that were refused, by number, as the reference says; the two sides' counts of them are compared.
@@ -71,6 +77,7 @@ impl Default for Totals {
             cases: 0,
             plans: 0,
             replacements: 0,
+            noted_replacements: [0; 2],
             responsiveness: [0; 8],
             ratios: Ratios::default(),
             lasting: [0; 2],
@@ -85,7 +92,9 @@ impl Default for Totals {
             withdrawals: [0; 5],
             behind: 0,
             finishes: [0; 5],
+            offers: Offers::default(),
             logs: 0,
+            noted_logs: 0,
             log_calls: 0,
             log_refusals: [0; NUMBERS],
             states: 0,
@@ -124,6 +133,12 @@ impl Totals {
         self.lasting[1] += u64::from(most == Some(255));
     }
 
+    /// Counts a plan given to a used job, which may have an offer, and whether it is accepted.
+    pub fn count_replacement(&mut self, noted: bool, accepted: bool) {
+        self.replacements += 1;
+        self.noted_replacements[usize::from(!accepted)] += u64::from(noted);
+    }
+
     /// Counts a call and its answer.
     pub fn count_call(&mut self, call: Call, number: u8) {
         self.calls += 1;
@@ -134,8 +149,25 @@ impl Totals {
         }
     }
 
+    /// Counts what an accepted call did, with the job after it.
+    pub fn count_report(&mut self, report: &Report, job: &Reference) {
+        match report {
+            Report::Grant(report) => self.count_withdrawn(report),
+            Report::Tick(report) => {
+                self.count_work(report);
+                self.count_thefts(report);
+                if job.is_finished() {
+                    self.count_finish(report);
+                }
+                if let Some(end) = report.quantum_end {
+                    self.ratios.cover_end(job, end);
+                }
+            }
+        }
+    }
+
     /// Counts what a tick does to tasks of several ticks.
-    pub fn count_work(&mut self, report: &TickReport) {
+    fn count_work(&mut self, report: &TickReport) {
         for cycle in &report.cycles {
             match *cycle {
                 Cycle::Work { tick, .. } => self.count_tick(tick),
@@ -155,7 +187,7 @@ impl Totals {
     }
 
     /// Counts the steal cycles of a tick. Those of workers after the finisher are in vain.
-    pub fn count_thefts(&mut self, report: &TickReport) {
+    fn count_thefts(&mut self, report: &TickReport) {
         for cycle in &report.cycles {
             if let Cycle::Steal { stolen, .. } = *cycle {
                 add(&mut self.thefts, usize::from(stolen.min(4)));
@@ -165,12 +197,12 @@ impl Totals {
     }
 
     /// Counts a tick that finished a job.
-    pub fn count_finish(&mut self, report: &TickReport) {
+    fn count_finish(&mut self, report: &TickReport) {
         add(&mut self.finishes, report.rested.min(4));
     }
 
-    /// Counts an accepted grant by what it withdrew.
-    pub fn count_withdrawn(&mut self, report: &GrantReport) {
+    /// Counts an accepted grant or opening by what it withdrew.
+    fn count_withdrawn(&mut self, report: &GrantReport) {
         add(&mut self.withdrawals, report.made_muggable.min(4));
         self.behind += u64::from(report.made_muggable > 1 && report.waited > 0);
         self.begun[0] += report.begun as u64;
@@ -240,6 +272,61 @@ impl Totals {
     }
 }
 
+impl Totals {
+    /// Two lines about plans that a used job was given.
+    fn show_replacements(&self, out: &mut fmt::Formatter<'_>) -> fmt::Result {
+        writeln!(
+            out,
+            "{:>12}  plans that took the place of a used job",
+            self.replacements
+        )?;
+        let [accepted, refused] = self.noted_replacements;
+        writeln!(
+            out,
+            "{accepted:>12}  of them accepted while an offer was noted, {refused} refused"
+        )
+    }
+
+    /// Four lines about offers.
+    fn show_offers(&self, out: &mut fmt::Formatter<'_>) -> fmt::Result {
+        use OfferBranch::*;
+        let of = |branches: &[OfferBranch]| -> u64 {
+            let counts = branches.iter().map(|&branch| self.offers.branch(branch));
+            counts.sum()
+        };
+        writeln!(
+            out,
+            "{:>12}  offers noted, {} opened whole, {} for less, {} withdrawn",
+            of(&[OfferDesire, OfferLess, OfferZero]),
+            of(&[OpenAll, OpenZeroOfZero]),
+            of(&[OpenFewer, OpenZero]),
+            of(&[WithdrawSome, WithdrawZero])
+        )?;
+        let [grants, offers, ticks] =
+            [GrantNoted, OfferNoted, TickNoted].map(|branch| of(&[branch]));
+        let above = of(&[OpenAboveOffer, OpenAboveDesire]);
+        writeln!(
+            out,
+            "{:>12}  calls refused while one was noted: {grants} grants, {offers} offers, {ticks} ticks, {above} openings above it",
+            grants + offers + ticks + above
+        )?;
+        writeln!(
+            out,
+            "{:>12}  quanta opened for less that ended inefficient, {} efficient and deprived; opened whole {}, {} and {} satisfied",
+            of(&[FewerInefficient]),
+            of(&[FewerDeprived]),
+            of(&[AllInefficient]),
+            of(&[AllDeprived]),
+            of(&[AllGrown, AllAtCap])
+        )?;
+        writeln!(
+            out,
+            "{:>12}  things about offers never reached",
+            self.offers.missing().len()
+        )
+    }
+}
+
 impl fmt::Display for Totals {
     fn fmt(&self, out: &mut fmt::Formatter<'_>) -> fmt::Result {
         let refused_plans: u64 = OF_PLANS.iter().map(|&number| self.refusals[number]).sum();
@@ -258,19 +345,15 @@ impl fmt::Display for Totals {
             "{several:>12}  of them with tasks of several ticks, {longest} with one of 255"
         )?;
         writeln!(out, "{refused_plans:>12}  plans refused")?;
-        writeln!(
-            out,
-            "{:>12}  plans that took the place of a used job",
-            self.replacements
-        )?;
+        self.show_replacements(out)?;
         let in_logs = self.refusals.iter().zip(self.log_refusals);
         let numbers = in_logs
             .enumerate()
-            .filter(|(number, _)| matches!(number, 1..=20 | 28));
+            .filter(|(number, _)| matches!(number, 1..=20 | 24 | 25 | 28));
         for (number, (count, in_logs)) in numbers {
             write!(out, "{count:>12}  refusals {number}")?;
             match number {
-                11..=17 => writeln!(out, ", and {in_logs} in logs run whole")?,
+                11..=17 | 25 => writeln!(out, ", and {in_logs} in logs run whole")?,
                 _ => writeln!(out)?,
             }
         }
@@ -283,9 +366,10 @@ impl fmt::Display for Totals {
         )?;
         writeln!(
             out,
-            "{:>12}  logs run whole, with {} calls",
-            self.logs, self.log_calls
+            "{:>12}  logs run whole, {} of them while an offer was noted, with {} calls",
+            self.logs, self.noted_logs, self.log_calls
         )?;
+        self.show_offers(out)?;
         writeln!(out, "{:>12}  copies that took other calls", self.branches)?;
         writeln!(out, "{:>12}  comparisons of whole states", self.states)?;
         let [work, mug, steal, successes] = self.cycles;

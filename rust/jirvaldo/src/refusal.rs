@@ -133,13 +133,13 @@ impl Refusal {
             }
             BadPredecessors => "a task from 1 up has no predecessor, or more than two",
             LooseEnd => "a task before the last has no successor; only the last task may have none",
-            Finished => "the job is finished and takes no more grants and ticks",
-            QuantumOpen => "a quantum is open; tick until it closes, then grant",
+            Finished => "the job is finished and takes no more grants, offers and ticks",
+            QuantumOpen => "a quantum is open; tick until it closes, then grant or offer",
             QuantaSpent => "4,096 quanta have begun, the most that a job may have",
             AboveDesire => {
                 "more workers are granted or offered than the job desires, or opened than were offered"
             }
-            NoQuantumOpen => "no quantum is open; a grant opens one",
+            NoQuantumOpen => "no quantum is open; a grant or the opening of an offer opens one",
             WrongChoiceCount => "the tick has not exactly one choice for each granted worker",
             BadChoice => "a choice names no granted worker; each has to be below the allotment",
             BrokenEntry => "the log ends inside an entry; the entries before it are done",

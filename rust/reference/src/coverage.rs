@@ -282,9 +282,8 @@ impl Coverage {
                 let seen = Seen::of(&job);
                 let answer = call.apply(&mut job);
                 self.offers.cover(&mut watch, seen, call, &answer, &job);
-                match answer {
-                    Err(refusal @ (Refusal::NoOffer | Refusal::OfferNoted)) => self.refuse(refusal),
-                    _ => (),
+                if let Err(refusal @ (Refusal::NoOffer | Refusal::OfferNoted)) = answer {
+                    self.refuse(refusal);
                 }
             }
         }

@@ -45,7 +45,7 @@ pub use job::{Cycle, GrantReport, Job, OpenQuantum, Rules, Status, TickReport, M
 pub use label::wording;
 pub use lasting::{Lasting, Tick};
 pub use log::{run_log, run_log_with, Entries, Entry, LogOutcome, Report};
-pub use offer::{Judged, Kind, Noting};
+pub use offer::Noting;
 pub use plan::{read_plan, read_plan_with, Plan, Task};
 pub use program::{program_output, program_output_with, split_input};
 pub use quantum::{is_efficient, QuantumEnd};

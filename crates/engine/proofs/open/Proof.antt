@@ -26,7 +26,8 @@ answered : (c : tie.After-open-answer) → answer-of (c .open-answer .result) �
 answered c = c .open-answer .ensures ∙ sym (open-asking (job c) (entry c .args .c))
 
 -- on the accepting way no question refuses
-asked : (c : tie.After-enum-told) → call-answer (opens (entry (c .before .before) .args .c)) (job-state (job (c .before .before))) ≡ accepted
+asked : (c : tie.After-enum-told) → let asking = c .before .before in
+    call-answer (opens (entry asking .args .c)) (job-state (job asking)) ≡ accepted
 asked c = sym (answered (c .before .before)) ∙ ap answer-of (c .enum-told .given .1)
 
 returns : tie.Need-returns

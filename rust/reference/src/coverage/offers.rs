@@ -120,7 +120,7 @@ pub const OFFER_BRANCHES: [(OfferBranch, &str); 46] = [
     (FewerDeprived, "end: fewer opened, efficient, deprived"),
     (
         DesireDeprived,
-        "end: the desire offered and fewer opened, efficient, deprived",
+        "end: the desire offered and some opened, efficient, deprived",
     ),
     (FinishOpened, "tick: finish in an opened quantum"),
 ];
@@ -291,15 +291,15 @@ impl Offers {
         if let Some((offered, opened)) = watch.opened {
             self.reach(FinishOpened, job.is_finished());
             if let Some(end) = report.quantum_end {
-                let wanted = offered == seen.desire;
-                self.cover_end(end, opened < offered, wanted);
+                let some = opened > 0 && offered == seen.desire;
+                self.cover_end(end, opened < offered, some);
             }
         }
     }
 
     /// Counts the end of an opened quantum: whether fewer were opened than
-    /// offered, and whether the desire was offered.
-    fn cover_end(&mut self, end: QuantumEnd, fewer: bool, wanted: bool) {
+    /// offered, and whether some were where the desire was offered.
+    fn cover_end(&mut self, end: QuantumEnd, fewer: bool, some: bool) {
         match end {
             QuantumEnd::Inefficient { .. } if fewer => self.reach(FewerInefficient, true),
             QuantumEnd::Inefficient { .. } => self.reach(AllInefficient, true),
@@ -308,7 +308,7 @@ impl Offers {
             QuantumEnd::Deprived => {
                 self.reach(AllDeprived, !fewer);
                 self.reach(FewerDeprived, fewer);
-                self.reach(DesireDeprived, fewer && wanted);
+                self.reach(DesireDeprived, fewer && some);
             }
         }
     }

@@ -9,10 +9,19 @@ use crate::quantum::MOST_WORKERS;
 /// Choices for ticks that find no quantum open.
 const CHOICES: [u8; MOST_WORKERS] = [0; MOST_WORKERS];
 
+/// Where few quanta are left, at least so many of 256 grants.
+const LAST_OFFERS: usize = 128;
+
 /// The calls in the place of a log's entry: itself, or in so many of 256 grants
 /// a row by way of an offer. Either leaves a job without a note as the entry
-/// does.
+/// does. 0 is none at any time.
 pub fn calls<'a>(random: &mut Random, job: &Job, entry: Entry<'a>, offers: usize) -> Vec<Call<'a>> {
+    let last = offers > 0 && job.quanta_begun() + 2 >= MOST_QUANTA;
+    let offers = if last {
+        offers.max(LAST_OFFERS)
+    } else {
+        offers
+    };
     match entry {
         Entry::Grant(count) if random.chance(offers) => row(random, job, count),
         _ => vec![Call::from(entry)],

@@ -2,7 +2,8 @@
 
 use reference::generator::offers::calls;
 use reference::generator::plans::Draft;
-use reference::generator::{cases, Random};
+use reference::generator::{cases, Case, Random};
+use reference::MOST_QUANTA;
 use reference::{offer, program_output, program_output_with, run_log, run_log_with};
 use reference::{Call, Entries, Entry, Job, Noting, OpenQuantum, Refusal, Rules, Status};
 
@@ -25,11 +26,12 @@ fn accepted(job: &mut Job, calls: &[Call]) {
     }
 }
 
-/// A chain of so many tasks in quanta of one tick, at one percent.
-fn chain(count: u16) -> Job {
+/// A chain of so many tasks, of which one worker at a time is of use, in quanta
+/// of one tick.
+fn chain(count: u16, utilization: u64) -> Job {
     let graph: Vec<Vec<u16>> = (1..count).map(|next| vec![next]).collect();
     let mut draft = Draft::of_graph(&[graph, vec![vec![]]].concat());
-    draft.utilization = 1;
+    draft.utilization = utilization;
     draft.quantum_length = 1;
     job(&draft.bytes())
 }
@@ -91,7 +93,7 @@ fn an_opening_is_a_grant_of_the_opened_count() {
 
 #[test]
 fn nothing_offered_and_nothing_opened() {
-    let mut job = chain(3);
+    let mut job = chain(3, 1);
     accepted(&mut job, &[Call::Offer(0)]);
     refused(&mut job, 14, Call::Open(1));
     refused(&mut job, 25, Call::Offer(0));
@@ -162,96 +164,50 @@ fn a_withdrawn_offer_leaves_room_for_another_and_for_a_grant() {
     assert_eq!(job, other);
 }
 
-/// A tree of seven tasks, which two workers keep busy; the desire is 2.
-fn busy() -> Job {
-    let successors: [&[u16]; 7] = [&[1, 2], &[3, 4], &[5], &[5], &[6], &[6], &[]];
-    let graph = successors.iter().map(|list| list.to_vec()).collect();
-    let mut draft = Draft::of_graph(&graph);
-    draft.quantum_length = 1;
-    let mut job = job(&draft.bytes());
-    accepted(&mut job, &[Call::Grant(1), Call::Tick(&[0])]);
-    assert_eq!(job.desire(), 2);
+/// A quantum of an offer: so many offered, and so many opened, who all choose
+/// worker 0. Returns the desire after it.
+fn opened(job: &mut Job, offered: usize, opened: usize) -> usize {
+    let choices = vec![0; opened];
+    let calls = [
+        Call::Offer(offered),
+        Call::Open(opened),
+        Call::Tick(&choices),
+    ];
+    accepted(job, &calls);
+    job.desire()
+}
+
+/// A chain's job with a desire of 4.
+fn wants_four(utilization: u64) -> Job {
+    let mut job = chain(40, utilization);
+    assert_eq!((opened(&mut job, 1, 1), opened(&mut job, 2, 2)), (2, 4));
     job
 }
 
-/// Two are wanted and offered: the count opened decides.
+/// One of the opened workers is of use; 4 are wanted.
 #[test]
 fn satisfied_by_the_opened_count() {
-    let ended = |offered, opened: usize, choices: &[u8]| {
-        let mut job = busy();
-        accepted(&mut job, &[Call::Offer(offered), Call::Open(opened)]);
-        accepted(&mut job, &[Call::Tick(choices)]);
-        job.desire()
-    };
-    // One of two: efficient and not satisfied.
-    assert_eq!(ended(2, 1, &[0]), 2);
-    assert_eq!(ended(1, 1, &[0]), 2);
-    // None of two: efficient, and not satisfied.
-    assert_eq!(ended(2, 0, &[]), 2);
-    // Two of two: one works and one steals, less than 80 percent.
-    assert_eq!(ended(2, 2, &[0, 0]), 1);
+    let desire = |offered, count| opened(&mut wants_four(1), offered, count);
+    assert_eq!(desire(4, 4), 8);
+    // Efficient and not satisfied, whatever was offered.
+    for (offered, count) in [(4, 3), (4, 1), (4, 0), (3, 3), (1, 1), (0, 0)] {
+        assert_eq!(desire(offered, count), 4, "{count} of {offered}");
+    }
 }
 
 #[test]
-fn efficient_and_satisfied_by_the_opened_count() {
-    let mut job = busy();
-    accepted(
-        &mut job,
-        &[Call::Offer(2), Call::Open(2), Call::Tick(&[0, 0])],
-    );
-    assert_eq!((job.desire(), job.deques().len()), (1, 2));
-    // The desire offered and opened: it grows.
-    accepted(&mut job, &[Call::Offer(1), Call::Open(1), Call::Tick(&[0])]);
-    assert_eq!(job.desire(), 2);
-}
-
-/// Of four offered three are opened, of which one is of use.
-#[test]
-fn inefficient_below_the_offer() {
-    let mut draft = Draft::of_graph(&(1..40).map(|t| vec![t]).chain([vec![]]).collect());
-    (draft.utilization, draft.quantum_length) = (30, 1);
-    let mut job = job(&draft.bytes());
-    accepted(&mut job, &[Call::Grant(1), Call::Tick(&[0])]);
-    accepted(&mut job, &[Call::Grant(2), Call::Tick(&[0, 0])]);
-    assert_eq!(job.desire(), 4);
-    let mut other = job.clone();
-    // A third is 30 percent and more; a quarter of what was offered is not.
-    accepted(
-        &mut job,
-        &[Call::Offer(4), Call::Open(3), Call::Tick(&[0; 3])],
-    );
-    assert_eq!(job.desire(), 4);
-    // With all four it is inefficient, satisfied or not.
-    accepted(
-        &mut other,
-        &[Call::Offer(4), Call::Open(4), Call::Tick(&[0; 4])],
-    );
-    assert_eq!(other.desire(), 2);
-}
-
-#[test]
-fn fewer_opened_and_inefficient() {
-    let mut draft = Draft::of_graph(&(1..40).map(|t| vec![t]).chain([vec![]]).collect());
-    (draft.utilization, draft.quantum_length) = (50, 1);
-    let mut job = job(&draft.bytes());
-    accepted(&mut job, &[Call::Grant(1), Call::Tick(&[0])]);
-    accepted(
-        &mut job,
-        &[Call::Offer(2), Call::Open(2), Call::Tick(&[0, 0])],
-    );
-    assert_eq!(job.desire(), 4);
-    accepted(
-        &mut job,
-        &[Call::Offer(4), Call::Open(3), Call::Tick(&[0; 3])],
-    );
-    assert_eq!(job.desire(), 2);
+fn efficient_by_the_opened_count() {
+    let desire = |offered, count| opened(&mut wants_four(50), offered, count);
+    // One of two is 50 percent, of three it is less.
+    assert_eq!((desire(4, 2), desire(3, 2), desire(2, 2)), (4, 4, 4));
+    assert_eq!((desire(4, 3), desire(3, 3), desire(4, 4)), (2, 2, 2));
 }
 
 /// An offer is no round begun: with 4,095 begun it can be offered and withdrawn
 /// as often as one likes.
 #[test]
 fn thirteen_for_offers() {
-    let mut job = chain(1);
+    let mut job = chain(1, 1);
     assert_eq!(run_log(&mut job, &[0x00, 0x80].repeat(4_095)).refused, 0);
     for _ in 0..9 {
         accepted(&mut job, &[Call::Offer(1), Call::Withdraw]);
@@ -294,11 +250,12 @@ fn a_log_on_a_noted_job() {
     }
 }
 
-/// A log's job where grants go by way of offers, and where they do not.
+/// Two jobs of a log: one whose grants go by way of offers, and one whose grants
+/// do not. While an offer is noted, they differ in it alone.
 #[test]
 fn an_opening_moves_a_history_as_a_grant() {
-    let mut rows = [0, 0];
-    for (seed, case) in (0..).zip(cases(8).take(600)) {
+    let mut rows = 0;
+    for (seed, case) in (0..).zip(cases(8).take(400)) {
         let random = &mut Random::new(seed);
         let (mut one, mut other) = match Job::accept(&case.plan) {
             Ok(job) => (job.clone(), job),
@@ -306,23 +263,22 @@ fn an_opening_moves_a_history_as_a_grant() {
         };
         for entry in Entries::new(&case.log).filter_map(Result::ok) {
             let calls = calls(random, &one, entry, 128);
-            let ends: Vec<_> = calls
-                .iter()
-                .map(|call| (*call, call.apply(&mut one)))
-                .collect();
+            let mut reports = Vec::new();
+            for call in &calls {
+                reports.extend(call.apply(&mut one).ok().flatten());
+                let mut copy = one.clone();
+                assert!(copy.withdraw().is_err() || copy == other, "{calls:?}");
+            }
             let answer = entry.apply(&mut other);
             assert_eq!(one, other, "{calls:?}");
-            // What did not only move the note was the opening or the grant.
-            let done: Vec<_> = ends.into_iter().filter_map(|(_, end)| end.ok()?).collect();
-            assert_eq!(done, answer.into_iter().collect::<Vec<_>>());
-            rows[usize::from(calls.len() > 1)] += 1;
+            assert_eq!(reports, answer.into_iter().collect::<Vec<_>>());
+            rows += usize::from(calls.len() > 1);
         }
     }
-    assert!(rows[1] > 10_000, "{rows:?}");
+    assert!(rows > 10_000, "{rows} rows");
 }
 
-/// What a job without a note does, every rule of the note leaves: no program
-/// and no stored case shows them.
+/// A log has no offers, so that no program shows a rule of the note.
 #[test]
 fn bent_rules_show_in_offers_alone() {
     for noting in offer::BENT.into_iter().chain([Noting::AskedFirst]) {
@@ -337,19 +293,19 @@ fn bent_rules_show_in_offers_alone() {
     }
 }
 
-/// Where an offer is noted, 11, 12 and 13 are answered with yes: whether 25 is
-/// asked after them or before does not show.
+/// So that it does not show whether 25 is asked after 11 to 13 or before.
 #[test]
-fn twenty_five_shows_no_place_before_fourteen() {
+fn an_offer_is_noted_only_where_11_to_13_pass() {
     for case in cases(12).take(300) {
         let random = &mut Random::new(case.log.len() as u64);
-        let Ok(mut job) = Job::accept(&case.plan) else {
-            continue;
+        let mut job = match Job::accept(&case.plan) {
+            Ok(job) => job,
+            Err(_) => continue,
         };
         for entry in Entries::new(&case.log).filter_map(Result::ok) {
             for call in calls(random, &job, entry, 200) {
                 let free = job.open_quantum().is_none() && !job.is_finished();
-                let more = job.quanta_begun() < reference::MOST_QUANTA;
+                let more = job.quanta_begun() < MOST_QUANTA;
                 assert!(job.noted_offer().is_none() || free && more);
                 let _ = call.apply(&mut job);
             }
@@ -357,41 +313,55 @@ fn twenty_five_shows_no_place_before_fourteen() {
     }
 }
 
-/// Each bent rule is another one: some row of calls tells it apart, but for one.
+/// Each bent rule is told apart by three cases, whose grants go by way of
+/// offers.
 #[test]
 fn bent_rules_are_told_apart() {
-    let mut found = vec![0; offer::BENT.len()];
+    let mut found = [0; offer::BENT.len()];
     for case in cases(2).take(700) {
-        for (place, noting) in offer::BENT.into_iter().enumerate() {
-            found[place] +=
-                usize::from(found[place] < 3 && tells_apart(noting, &case.plan, &case.log));
+        for (noting, found) in offer::BENT.into_iter().zip(&mut found) {
+            *found += usize::from(*found < 3 && tells_apart(noting, &case));
         }
     }
-    for (noting, found) in offer::BENT.iter().zip(found) {
+    for (noting, found) in offer::BENT.into_iter().zip(found) {
         assert!(found > 2, "{found} with {noting:?}");
     }
 }
 
-/// Whether a log by way of offers tells a rule from the request's.
-fn tells_apart(noting: Noting, plan: &[u8], log: &[u8]) -> bool {
-    let random = &mut Random::new(log.len() as u64);
+/// Whether a case's calls tell a rule from the request's.
+fn tells_apart(noting: Noting, case: &Case) -> bool {
     let rules = Rules {
         noting,
         ..Rules::default()
     };
-    let Ok(mut right) = Job::accept(plan) else {
-        return false;
+    let mut right = match Job::accept(&case.plan) {
+        Ok(job) => job,
+        Err(_) => return false,
     };
-    let mut bent = right.clone().with_rules(rules);
-    for entry in Entries::new(log).filter_map(Result::ok) {
+    let (mut bent, random) = (right.clone().with_rules(rules), &mut Random::new(7));
+    for entry in Entries::new(&case.log).filter_map(Result::ok) {
         for call in calls(random, &right, entry, 64) {
             let same = call.apply(&mut right) == call.apply(&mut bent);
-            if !same || bent != right.clone().with_rules(rules) {
+            let tick = matches!(call, Call::Tick(_));
+            if !same || !tick && (differ(&right, &bent) || log_differs(&right, &bent)) {
                 return true;
             }
         }
     }
     false
+}
+
+/// Whether two jobs differ in more than their rules.
+fn differ(right: &Job, bent: &Job) -> bool {
+    right.clone().with_rules(bent.rules()) != *bent
+}
+
+/// Whether a log differs on copies of two jobs, if an offer is noted.
+fn log_differs(right: &Job, bent: &Job) -> bool {
+    let (mut right, mut bent) = (right.clone(), bent.clone());
+    right.noted_offer().is_some()
+        && (run_log(&mut right, &[1, 0x80]) != run_log(&mut bent, &[1, 0x80])
+            || differ(&right, &bent))
 }
 
 /// A tick of a log keeps its choices.

@@ -12,8 +12,8 @@ use super::{hex, input, job, plan_refusal, LASTING_PLAN_A, PLAN_A};
 fn numbers_and_sentences() {
     let numbers: Vec<u8> = Refusal::ALL.iter().map(|r| r.number()).collect();
     assert_eq!(numbers, (1..=22).chain([24, 25, 28]).collect::<Vec<u8>>());
-    let shown = Refusal::QuantumOpen.to_string();
-    assert_eq!(shown, "12: a quantum is open");
+    let shown = Refusal::OfferNoted.to_string();
+    assert_eq!(shown, "25: an offer is noted; open or withdraw it first");
 }
 
 /// A draft of Plan A with one change.
