@@ -1,10 +1,11 @@
 -- Demands 2 and 3 over the jobs of a list of calls: `every-record`, which a stranger reads first. Each job of a chain is reached by the
 -- plan and the calls, refused ones included, and whatever job an accepted plan and calls reach has what the demands say.
 -- The records of a chain, Accepts, Moves and Runs, are the very contracts wherever a job is held: of a record by value (`job::accept`,
--- `grant`, `tick`), of lent memory (`exports`, `exports_log`) and of what the program calls (`engine::accept`, `log::run`).
+-- `grant`, `offer`, `open`, `withdraw`, `tick`), of lent memory (`exports`, `exports_log`) and of what the program calls (`engine::accept`,
+-- `log::run`). An offer and a withdrawal of lent memory get the words alone, and what they promise is Moves with the memory at hand.
 -- Assumes nothing.
 use mathlib.Core.Path.{_≡_, refl, sym, subst}
-use mathlib.Core.List.{List, []}
+use mathlib.Core.List.{List, [], _∷_, _++_}
 use Prim.Native.Nat.{ℕ, _<_}
 use native.Mathlib.Omega.{arith}
 use Rattle.model.specs.Questions.{Answer, accepted, refused, answer-number}
@@ -12,8 +13,9 @@ use Rattle.model.specs.Plan.{plan-of, plan-answer}
 use Rattle.model.specs.Machine.{Call}
 use Rattle.model.specs.Examples.{plan-a, plan-a-begins}
 use Rattle.memory.specs.declared.Job.{Job}
+use Rattle.memory.specs.Jobs.{lent}
 use Rattle.engine.specs.Reached.{Reached, IsJob, JobWords}
-use Rattle.engine.specs.Moves.{Accepts}
+use Rattle.engine.specs.Moves.{Accepts, Moves}
 use Rattle.engine.specs.Demands.{JobDemands}
 use Rattle.engine.proofs.Demands.{demands}
 use Rattle.demands.specs.Chain.{Chain, accepts, calls-next, log-next, refuses-next}
@@ -38,6 +40,13 @@ chain-is-job chain = (_, _, chain-reached chain)
 -- and so for the functions that read its words alone
 pub chain-words : {bytes : List ℕ} {calls : List Call} {job : Job} → Chain bytes calls job → JobWords (job .words)
 chain-words {job = job} chain = (job .memory, chain-is-job chain)
+
+-- a call of the words alone, which promises its move of every memory (`engine::offer`, `jirvaldo_core_offer` and their withdrawals), goes
+-- on with the memory at hand
+pub words-next : {bytes : List ℕ} {calls : List Call} {job : Job} {call : Call} {words′ : List ℕ} → Chain bytes calls job →
+    ((memory : List ℕ) → IsJob (lent memory (job .words)) → Moves call (lent memory (job .words)) (lent memory words′)) →
+    Chain bytes (calls ++ call ∷ []) (lent (job .memory) words′)
+words-next {job = job} chain moves = calls-next chain (moves (job .memory) (chain-is-job chain))
 
 -- ---- how chains begin and go on
 

@@ -1,4 +1,5 @@
--- Demands 2 and 3, request U6's sum and request U9's ticks, over a job: whatever job accepted plans and calls reach has what they say.
+-- Demands 2 and 3, request U6's sum, request U9's ticks and request U5's offers, over a job: whatever job accepted plans and calls reach
+-- has what they say.
 -- Assumes nothing.
 use mathlib.Core.Path.{_≡_, sym, ap, subst, _∙_}
 use mathlib.Core.Bool.{true, false}
@@ -10,7 +11,7 @@ use Rattle.model.specs.Plan.{Plan, tasks}
 use Rattle.model.specs.Machine.{worked, State, Call, status}
 use Rattle.model.specs.WholeTicks.{all-counted}
 use Rattle.laws.proofs.Theorems.{demand-three, once-and-in-order, finished-exactly, whole-ticks, ticks-are-work}
-use Rattle.laws.proofs.Theorems.{only-fronts-begun}
+use Rattle.laws.proofs.Theorems.{only-fronts-begun, offer-then-open}
 use Rattle.memory.specs.declared.Job.{Job}
 use Rattle.memory.specs.Jobs.{job-state}
 use Rattle.engine.specs.Reached.{Reached}
@@ -35,4 +36,5 @@ demands {plan} {calls} r =
       adds-up = ap (λ (s : State). all-counted (s .execution .counts)) (r .its-state) ∙ whole-ticks sound calls .adds-up;
       ticks-are-work = ticks-are-work sound calls;
       only-fronts-begun = only-fronts-begun sound calls;
+      offer-then-open = offer-then-open sound calls;
     }

@@ -1,5 +1,5 @@
--- Demands 2 and 3, request U6's sum and request U9's ticks, over a job that a plan and a list of calls, refused ones included, reach. The
--- history is made from the plan and the calls alone; what the job shows is compared with it.
+-- Demands 2 and 3, request U6's sum, request U9's ticks and request U5's offers, over a job that a plan and a list of calls, refused ones
+-- included, reach. The history is made from the plan and the calls alone; what the job shows is compared with it.
 use mathlib.Core.Path.{_≡_}
 use mathlib.Core.Bool.{true, false}
 use mathlib.Core.Logic.{_↔_}
@@ -12,6 +12,7 @@ use Rattle.model.specs.History.{run, work-count, mug-count}
 use Rattle.model.specs.Statements.{Demand3, OnceAndInOrder}
 use Rattle.model.specs.WholeTicks.{worker-ticks}
 use Rattle.model.specs.Lasting.{TicksAreWork, OnlyFrontsBegun}
+use Rattle.model.specs.Offers.{OfferThenOpen}
 use Rattle.memory.specs.declared.Job.{Job}
 use Rattle.memory.specs.Jobs.{job-numbers, job-state}
 
@@ -32,3 +33,6 @@ pub record JobDemands (plan : Plan) (calls : List Call) (job : Job) : Type 0 whe
   -- request U9: of each piece the ticks done and those left are its ticks, and W is the sum of the ticks done; only a front piece is begun
   pub ticks-are-work : TicksAreWork plan (run plan calls)
   pub only-fronts-begun : OnlyFrontsBegun plan (run plan calls)
+  -- request U5: an offer that is opened is a grant of the opened count, one that is withdrawn is nothing, and while it is noted nothing
+  -- else moves the job
+  pub offer-then-open : OfferThenOpen plan calls

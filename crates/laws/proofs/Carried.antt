@@ -9,10 +9,10 @@ use Prim.Native.Nat.{ℕ}
 use native.Mathlib.Omega.{arith}
 use Rattle.model.specs.Plan.{Plan}
 use Rattle.model.specs.Machine.{Note, Call, fresh, grant, ticked, closes, closed, tick}
-use Rattle.model.specs.History.{History, beginning, history-noted, history-grant, history-tick, history-step, run}
+use Rattle.model.specs.History.{History, beginning, history-grant, history-tick, history-step, run}
 use Rattle.model.specs.Statements.{SoundPlan, ending, EndsAsRecorded}
 use Rattle.laws.proofs.Accepted.{GrantAccepted, TickAccepted, tick-accepted}
-use Rattle.laws.proofs.Runs.{history-ticked, history-closed, tick-moves, by-moves}
+use Rattle.laws.proofs.Runs.{history-noted, history-ticked, history-closed, tick-moves, by-moves}
 use Rattle.laws.proofs.Progress.{tick-progress}
 use Rattle.laws.proofs.Ladder.{ladder-of}
 use Rattle.laws.proofs.Powers.{Phase, phase-start, phase-noted, phase-granted, phase-ticked, phase-closed, at-end, OnLadder, ended}

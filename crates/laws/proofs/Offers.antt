@@ -8,12 +8,12 @@ use Prim.Native.Nat.{ℕ, _≤_}
 use Rattle.model.specs.Questions.{accepted}
 use Rattle.model.specs.Plan.{Plan}
 use Rattle.model.specs.Machine.{Note, offered, withdraw-offer, Call, grants, offers, opens, withdraws, call-answer}
-use Rattle.model.specs.History.{History, history-noted, history-grant, history-open, history-step, run}
+use Rattle.model.specs.History.{History, history-offer, history-grant, history-open, history-step, run}
 use Rattle.model.specs.Offers.{WhileNoted, Offered, OfferThenOpen}
 use Rattle.laws.proofs.Accepted.{GrantAccepted, grant-accepted, grant-passes, grant-fewer, offer-asks, noted-grant, noted-offer}
 use Rattle.laws.proofs.Accepted.{noted-tick, granted-without}
 use Rattle.laws.proofs.Accepted.{noted-open, noted-open-above, noted-withdraw, none-open, none-withdraw}
-use Rattle.laws.proofs.Runs.{offer-waits}
+use Rattle.laws.proofs.Runs.{history-noted, offer-waits}
 
 while-noted : (plan : Plan) (h : History) (g : ℕ) → h .state .note ≡ offered g → GrantAccepted g (withdraw-offer (h .state)) →
     WhileNoted plan h g
@@ -46,10 +46,10 @@ module _ (plan : Plan) (h : History) (g : ℕ) (answer : call-answer (offers g) 
       record {
         granted = granted;
         opened-is-granted = λ c l.
-            rw (answer, noted-open (history-noted (offered g) h .state) refl c l, granted c l)
+            rw (answer, noted-open (history-offer g h .state) refl c l, granted c l)
             (ap (λ (n : Note). history-grant c (history-noted n h)) (sym (asked .no-note)));
         withdrawn-is-nothing =
-            rw (answer, noted-withdraw (history-noted (offered g) h .state) refl)
+            rw (answer, noted-withdraw (history-offer g h .state) refl)
             (ap (λ (n : Note). history-noted n h) (sym (asked .no-note)));
       }
 

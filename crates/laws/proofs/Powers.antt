@@ -13,11 +13,11 @@ use Rattle.model.specs.Plan.{Growth, Plan, Terms}
 use Rattle.model.specs.Machine.{Wish, State, idle, opened, allotment, finished, ticks-of, fresh, grant, ticked, closes, closed}
 use Rattle.model.specs.Machine.{efficient, satisfied, efficient-now, satisfied-now, lowered, higher, raised, next-wish, desire-at, wish-at}
 use Rattle.model.specs.Machine.{most-workers, Note}
-use Rattle.model.specs.History.{History, ClosedQuantum, none, begun-with, verdict, beginning, history-noted, history-grant}
+use Rattle.model.specs.History.{History, ClosedQuantum, none, begun-with, verdict, beginning, history-grant}
 use Rattle.model.specs.Statements.{SoundTerms, ending}
 use Rattle.lists.proofs.Tests.{and-right}
 use Rattle.laws.proofs.Accepted.{GrantAccepted, TickAccepted}
-use Rattle.laws.proofs.Runs.{history-ticked, history-closed}
+use Rattle.laws.proofs.Runs.{history-noted, history-ticked, history-closed}
 use Rattle.laws.proofs.Ladder.{Ladder, ladder-of}
 use Rattle.laws.proofs.Grants.{grant-allotment}
 use Rattle.laws.proofs.Counting.{Progressing, cycles-spend}

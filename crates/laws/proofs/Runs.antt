@@ -11,10 +11,10 @@ use Prim.Native.Nat.{ℕ}
 use native.Mathlib.Omega.{arith}
 use Rattle.model.specs.Questions.{Answer, accepted, refused, by-answer}
 use Rattle.model.specs.Plan.{Plan}
-use Rattle.model.specs.Machine.{State, Note, no-offer, offered, fresh, grant, withdraw-offer, open-offer, tick, ticked, closes, closed}
-use Rattle.model.specs.Machine.{cycles-made, Call, grants, ticks, offers, opens, withdraws, call-answer, step, moved}
-use Rattle.model.specs.History.{History, none, verdict, beginning, history-grant, history-tick, history-noted, history-open, history-moved}
-use Rattle.model.specs.History.{history-step, run, run-from}
+use Rattle.model.specs.Machine.{State, Note, no-offer, offered, with-note, fresh, grant, withdraw-offer, open-offer, tick, ticked}
+use Rattle.model.specs.Machine.{closes, closed, cycles-made, Call, grants, ticks, offers, opens, withdraws, call-answer, step, moved}
+use Rattle.model.specs.History.{History, none, verdict, beginning, history-grant, history-tick, history-withdraw, history-open}
+use Rattle.model.specs.History.{history-moved, history-step, run, run-from}
 use Rattle.laws.proofs.Accepted.{GrantAccepted, TickAccepted, grant-accepted, tick-accepted, offer-asks, open-accepted}
 use Rattle.laws.proofs.Accepted.{grant-fewer, noted-withdraw, tick-note, not-idle}
 
@@ -119,6 +119,11 @@ module _ (plan : Plan) (P : History → Type 0)
 
 -- ---- the note
 
+-- the history with another note, and else as it was
+abbrev pub history-noted : Note → History → History
+history-noted note h =
+    record { state = with-note note (h .state); closed-quanta = h .closed-quanta; current = h .current; made = h .made }
+
 not-noted : {g : ℕ} → no-offer ≡ offered g → ⊥
 not-noted p = let z : _≡_ {A = ℕ} 0 1 = cc in omega arith
 
@@ -157,7 +162,7 @@ offer-waits plan calls =
 
 -- a withdrawal of an offer that is noted drops the note
 pub withdrawn : (plan : Plan) (calls : List Call) (g : ℕ) → run plan calls .state .note ≡ offered g →
-    run plan (calls ++ withdraws ∷ []) ≡ history-noted no-offer (run plan calls)
+    run plan (calls ++ withdraws ∷ []) ≡ history-withdraw (run plan calls)
 unfolding history-step
 withdrawn plan calls g noted = run-snoc plan calls withdraws ∙ rw (noted-withdraw (run plan calls .state) noted) refl
 

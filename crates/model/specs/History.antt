@@ -5,7 +5,7 @@ use Prim.Native.Nat.{ℕ}
 use Rattle.model.specs.Tests.{occurrences}
 use Rattle.model.specs.Questions.{by-answer}
 use Rattle.model.specs.Plan.{Plan}
-use Rattle.model.specs.Machine.{Wish, Note, no-offer, offered, State, with-note, fresh, grant, tick, ticked, closes, efficient}
+use Rattle.model.specs.Machine.{Wish, State, fresh, grant, offer, withdraw-offer, tick, ticked, closes, efficient}
 use Rattle.model.specs.Machine.{satisfied}
 use Rattle.model.specs.Machine.{Cycle, works-on, mugs-deque, steals-from, steals-nothing, cycles-made}
 use Rattle.model.specs.Machine.{Call, grants, ticks, offers, opens, withdraws, call-answer}
@@ -68,22 +68,24 @@ history-tick plan choices h =
       made = h .made ++ cycles-made (plan .graph) 0 choices (h .state .execution);
     }
 
--- the history with another note, and else as it was
-abbrev pub history-noted : Note → History → History
-history-noted note h =
-    record { state = with-note note (h .state); closed-quanta = h .closed-quanta; current = h .current; made = h .made }
+-- Request U5: "the history keeps the note": an offer and a withdrawal move that alone
+abbrev pub history-offer : ℕ → History → History
+history-offer g h = record { state = offer g (h .state); closed-quanta = h .closed-quanta; current = h .current; made = h .made }
+
+abbrev pub history-withdraw : History → History
+history-withdraw h = record { state = withdraw-offer (h .state); closed-quanta = h .closed-quanta; current = h .current; made = h .made }
 
 -- "an opening moves it as a grant of the opened count", and the note is dropped
 unfoldable pub history-open : ℕ → History → History
-history-open c h = history-grant c (history-noted no-offer h)
+history-open c h = history-grant c (history-withdraw h)
 
--- "A call moves it by Grant, Tick and Round's end". Request U5: "the history keeps the note", and an offer and a withdrawal move it alone
+-- "A call moves it by Grant, Tick and Round's end", and request U5's calls
 abbrev pub history-moved : Plan → Call → History → History
 history-moved plan (grants g) h = history-grant g h
 history-moved plan (ticks choices) h = history-tick plan choices h
-history-moved plan (offers g) h = history-noted (offered g) h
+history-moved plan (offers g) h = history-offer g h
 history-moved plan (opens c) h = history-open c h
-history-moved plan withdraws h = history-noted no-offer h
+history-moved plan withdraws h = history-withdraw h
 
 -- "one that a question turns down, asked of the history, leaves it as it was"
 unfoldable pub history-step : Plan → Call → History → History
