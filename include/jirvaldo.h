@@ -77,9 +77,9 @@ enum jirvaldo_refusal {
 };
 
 enum jirvaldo_job_status {
-    JIRVALDO_STATUS_FRESH = 0,   /* nothing above 0 was ever granted */
-    JIRVALDO_STATUS_RUNNING = 1, /* the last accepted grant was above 0 */
-    JIRVALDO_STATUS_HELD = 2,    /* the last accepted grant was 0 */
+    JIRVALDO_STATUS_FRESH = 0,   /* nothing above 0 was ever granted or opened */
+    JIRVALDO_STATUS_RUNNING = 1, /* the last accepted grant or open was above 0 */
+    JIRVALDO_STATUS_HELD = 2,    /* the last accepted grant or open was 0 */
     JIRVALDO_STATUS_FINISHED = 3 /* every task is worked */
 };
 
@@ -96,7 +96,7 @@ typedef struct jirvaldo_numbers {
     uint64_t worked;        /* tasks that are worked: all their ticks are done */
     uint64_t tasks;         /* tasks of the plan */
     uint64_t desire;        /* workers that the job wants next, 1 to 64 */
-    uint64_t allotment;     /* workers that the last accepted grant gave */
+    uint64_t allotment;     /* workers that the last accepted grant or open gave */
     uint64_t work;          /* cycles in which a worker did a tick of a task */
     uint64_t mug;           /* cycles in which a worker picked up the deque of a withdrawn one */
     uint64_t steal;         /* cycles in which a worker tried to take tasks from another's deque, or came after the job's last task */
