@@ -7,17 +7,30 @@ use mathlib.Core.List.{List}
 use Prim.Native.Nat.{ℕ, _≤_}
 use Rattle.model.specs.Questions.{accepted}
 use Rattle.model.specs.Plan.{Plan}
-use Rattle.model.specs.Machine.{Note, offered, withdraw-offer, Call, grants, offers, opens, withdraws, call-answer}
+use Rattle.model.specs.Machine.{Note, no-offer, offered, status, grant, withdraw-offer, Call, grants, offers, opens, withdraws, call-answer}
 use Rattle.model.specs.History.{History, history-offer, history-grant, history-open, history-step, run}
-use Rattle.model.specs.Offers.{WhileNoted, Offered, OfferThenOpen}
+use Rattle.model.specs.Offers.{OnlyNoted, WhileNoted, Offered, OfferThenOpen}
 use Rattle.laws.proofs.Accepted.{GrantAccepted, grant-accepted, grant-passes, grant-fewer, offer-asks, noted-grant, noted-offer}
-use Rattle.laws.proofs.Accepted.{noted-tick, granted-without}
-use Rattle.laws.proofs.Accepted.{noted-open, noted-open-above, noted-withdraw, none-open, none-withdraw}
+use Rattle.laws.proofs.Accepted.{noted-tick, granted-without, noted-open, noted-open-above, noted-withdraw, none-open, none-withdraw}
 use Rattle.laws.proofs.Runs.{history-noted, offer-waits}
+
+noted-only : (h : History) (note : Note) → OnlyNoted h (history-noted note h)
+unfolding status
+noted-only h note =
+    record {
+      same-execution = refl;
+      same-wish = refl;
+      same-quantum = refl;
+      same-begun = refl;
+      same-status = refl;
+      same-closed = refl;
+      same-current = refl;
+      same-made = refl;
+    }
 
 while-noted : (plan : Plan) (h : History) (g : ℕ) → h .state .note ≡ offered g → GrantAccepted g (withdraw-offer (h .state)) →
     WhileNoted plan h g
-unfolding history-step history-open
+unfolding history-step history-open history-grant grant
 while-noted plan h g noted waits =
     record {
       grants-refused = noted-grant (h .state) noted waits;
@@ -26,6 +39,9 @@ while-noted plan h g noted waits =
       opens-up-to-it = noted-open (h .state) noted;
       above-refused = noted-open-above (h .state) noted;
       withdraws-it = noted-withdraw (h .state) noted;
+      opening-drops = λ c l. rw (noted-open (h .state) noted c l) refl;
+      withdrawing-drops = rw (noted-withdraw (h .state) noted) refl;
+      withdrawing-only = rw (noted-withdraw (h .state) noted) (noted-only h no-offer);
       would-be-granted = λ c l. rw (noted-withdraw (h .state) noted) (granted-without (h .state) noted waits c l);
       opens-as-grant = λ c l.
           rw (noted-withdraw (h .state) noted, noted-open (h .state) noted c l, granted-without (h .state) noted waits c l) refl;
@@ -44,6 +60,8 @@ module _ (plan : Plan) (h : History) (g : ℕ) (answer : call-answer (offers g) 
   unfolding history-step history-open
   offer-then =
       record {
+        notes = rw answer refl;
+        notes-only = rw answer (noted-only h (offered g));
         granted = granted;
         opened-is-granted = λ c l.
             rw (answer, noted-open (history-offer g h .state) refl c l, granted c l)

@@ -127,8 +127,7 @@ history-noted note h =
 not-noted : {g : ℕ} → no-offer ≡ offered g → ⊥
 not-noted p = let z : _≡_ {A = ℕ} 0 1 = cc in omega arith
 
--- while an offer is noted nothing but an opening or a withdrawal moves the job, so that what a grant of the offered count was asked holds
--- on
+-- while an offer is noted nothing but an opening or a withdrawal moves the job: what a grant of the offered count was asked still holds
 abbrev Waits : State → Type 0
 Waits s = (g : ℕ) → s .note ≡ offered g → GrantAccepted g (withdraw-offer s)
 

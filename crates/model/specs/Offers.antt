@@ -5,8 +5,20 @@ use mathlib.Core.List.{List}
 use Prim.Native.Nat.{ℕ, _≤_, _<_}
 use Rattle.model.specs.Questions.{accepted, refused}
 use Rattle.model.specs.Plan.{Plan}
-use Rattle.model.specs.Machine.{no-offer, offered, Call, grants, ticks, offers, opens, withdraws, call-answer}
+use Rattle.model.specs.Machine.{no-offer, offered, status, Call, grants, ticks, offers, opens, withdraws, call-answer}
 use Rattle.model.specs.History.{History, history-step, run}
+
+-- nothing but the note moved: no line, orphan, tick left or count, no wanted count, no round, no status
+pub record OnlyNoted (before after : History) : Type 0 where
+  pub same-execution : after .state .execution ≡ before .state .execution
+  pub same-wish : after .state .wish ≡ before .state .wish
+  pub same-quantum : after .state .quantum ≡ before .state .quantum
+  pub same-begun : after .state .begun ≡ before .state .begun
+  pub same-status : status (after .state) ≡ status (before .state)
+  -- .. and nothing of what only the past knows
+  pub same-closed : after .closed-quanta ≡ before .closed-quanta
+  pub same-current : after .current ≡ before .current
+  pub same-made : after .made ≡ before .made
 
 -- while an offer of g is noted nothing but an opening or a withdrawal can move the job
 pub record WhileNoted (plan : Plan) (h : History) (g : ℕ) : Type 0 where
@@ -18,12 +30,19 @@ pub record WhileNoted (plan : Plan) (h : History) (g : ℕ) : Type 0 where
   pub opens-up-to-it : (c : ℕ) → c ≤ g → call-answer (opens c) (h .state) ≡ accepted
   pub above-refused : (c : ℕ) → g < c → call-answer (opens c) (h .state) ≡ refused 14
   pub withdraws-it : call-answer withdraws (h .state) ≡ accepted
+  -- "opening and withdrawing both drop the note", and withdrawing does nothing else
+  pub opening-drops : (c : ℕ) → c ≤ g → history-step plan (opens c) h .state .note ≡ no-offer
+  pub withdrawing-drops : history-step plan withdraws h .state .note ≡ no-offer
+  pub withdrawing-only : OnlyNoted h (history-step plan withdraws h)
   -- without the note a grant of the opened count is accepted, and the opening is that grant: so it need not ask 11 to 13
   pub would-be-granted : (c : ℕ) → c ≤ g → call-answer (grants c) (history-step plan withdraws h .state) ≡ accepted
   pub opens-as-grant : (c : ℕ) → c ≤ g → history-step plan (opens c) h ≡ history-step plan (grants c) (history-step plan withdraws h)
 
 -- an offer of g that is accepted
 pub record Offered (plan : Plan) (h : History) (g : ℕ) : Type 0 where
+  -- it "only notes g"
+  pub notes : history-step plan (offers g) h .state .note ≡ offered g
+  pub notes-only : OnlyNoted h (history-step plan (offers g) h)
   -- opened for c it is a grant of c, and the grant is accepted
   pub granted : (c : ℕ) → c ≤ g → call-answer (grants c) (h .state) ≡ accepted
   pub opened-is-granted : (c : ℕ) → c ≤ g →
