@@ -15,8 +15,8 @@ pub mod Thefts
 pub mod Muggings
 pub mod WholeTicks
 pub mod Lasting
-pub mod Offers
 pub mod Log
+pub mod Offers
 pub mod Label
 pub mod Counters
 pub mod Digits

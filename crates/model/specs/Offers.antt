@@ -3,10 +3,12 @@
 use mathlib.Core.Path.{_≡_}
 use mathlib.Core.List.{List}
 use Prim.Native.Nat.{ℕ, _≤_, _<_}
+use lib.ListN.{length}
 use Rattle.model.specs.Questions.{accepted, refused}
 use Rattle.model.specs.Plan.{Plan}
 use Rattle.model.specs.Machine.{no-offer, offered, status, Call, grants, ticks, offers, opens, withdraws, call-answer}
 use Rattle.model.specs.History.{History, history-step, run}
+use Rattle.model.specs.Log.{entries, run-log}
 
 -- nothing but the note moved: no line, orphan, tick left or count, no wanted count, no round, no status
 pub record OnlyNoted (before after : History) : Type 0 where
@@ -26,6 +28,8 @@ pub record WhileNoted (plan : Plan) (h : History) (g : ℕ) : Type 0 where
   pub grants-refused : (n : ℕ) → call-answer (grants n) (h .state) ≡ refused 25
   pub offers-refused : (n : ℕ) → call-answer (offers n) (h .state) ≡ refused 25
   pub ticks-refused : (choices : List ℕ) → call-answer (ticks choices) (h .state) ≡ refused 15
+  -- "the day log has no other": each call of a log is refused, and counted
+  pub logs-refused : (log : List ℕ) → run-log plan log (h .state) ≡ record { state = h .state; refusals = length (entries log .calls) }
   -- "an opened count above the offer gets 14", and no other is refused
   pub opens-up-to-it : (c : ℕ) → c ≤ g → call-answer (opens c) (h .state) ≡ accepted
   pub above-refused : (c : ℕ) → g < c → call-answer (opens c) (h .state) ≡ refused 14
