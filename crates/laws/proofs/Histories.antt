@@ -10,7 +10,7 @@ use lib.ListN.{length}
 use borrow.Author.Tests.{ne-eqb}
 use Rattle.model.specs.Tests.{total}
 use Rattle.model.specs.Plan.{Plan, tasks}
-use Rattle.model.specs.Machine.{worked, Execution, State, allotment, idle, opened, fresh, grant, cycles, cycles-made, tick}
+use Rattle.model.specs.Machine.{worked, Execution, State, allotment, idle, fresh, grant, cycles, cycles-made, tick}
 use Rattle.model.specs.Machine.{ticked, closed, Call}
 use Rattle.model.specs.History.{ClosedQuantum, CurrentQuantum, none, begun-with, History, beginning, history-grant, history-tick, verdict}
 use Rattle.model.specs.History.{run}

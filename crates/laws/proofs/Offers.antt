@@ -11,8 +11,8 @@ use lib.Dec.{ltb}
 use lib.ListN.{length, take, drop}
 use Rattle.model.specs.Questions.{accepted, refused}
 use Rattle.model.specs.Plan.{Plan}
-use Rattle.model.specs.Machine.{State, Note, no-offer, offered, status, grant, withdraw-offer, Call, grants, ticks, offers, opens}
-use Rattle.model.specs.Machine.{withdraws, call-answer, step}
+use Rattle.model.specs.Machine.{State, Note, no-offer, offered, status, grant, withdraw-offer, Call, grants, ticks, offers}
+use Rattle.model.specs.Machine.{call-answer, step}
 use Rattle.model.specs.History.{History, history-offer, history-grant, history-open, history-step, run}
 use Rattle.model.specs.Log.{Entries, choices-announced, entry-whole, entry-call, entry-then, entries-up-to, entries, Ran, run-calls}
 use Rattle.model.specs.Log.{run-log}

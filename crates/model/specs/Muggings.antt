@@ -31,7 +31,8 @@ withdrawn-by (offers g) s = []
 withdrawn-by (opens c) s = withdrawn-deques c (s .execution .deques)
 withdrawn-by withdraws s = []
 
--- the deques that a list of calls withdraws from a state on, grant by grant; a refused grant withdraws none
+-- the deques that a list of calls withdraws from a state on, grant by grant, where an opening is a grant of the opened count; a refused
+-- call withdraws none
 unfoldable pub all-withdrawn : Plan → State → List Call → List (List ℕ)
 all-withdrawn plan s [] = []
 all-withdrawn plan s (call ∷ calls) =
@@ -48,8 +49,8 @@ mugged-in (steals-nothing ∷ made) = mugged-in made
 pub record MuggedInTurn (plan : Plan) (calls : List Call) : Type 0 where
   -- of one grant the highest worker's deque is the first
   pub highest-first : (g : ℕ) (deques : List (List ℕ)) → HighestFirst g deques (withdrawn-deques g deques)
-  -- what was mugged so far, and then what waits, is what all grants so far withdrew: an earlier grant's deques are mugged before a later
-  -- one's, in the order of each grant, and no deque changes while it waits
+  -- what was mugged so far, and then what waits, is what all grants and openings so far withdrew: an earlier grant's deques are mugged
+  -- before a later one's, in the order of each grant, and no deque changes while it waits
   pub in-turn : mugged-in (run plan calls .made) ++ run plan calls .state .execution .muggable ≡ all-withdrawn plan (fresh plan) calls
   -- a mug cycle, in every execution: "The oldest orphan becomes this worker's line, whole", and the others wait on
   pub oldest-whole : (e : Execution) (w choice : ℕ) → w < length (e .deques) → deque-of e w ≡ [] → 1 ≤ length (e .muggable) →
