@@ -323,14 +323,14 @@ note-shown : Note → List ℕ
 note-shown no-offer = 0 ∷ []
 note-shown (offered g) = 1 ∷ g ∷ []
 
--- after calls from a state of Plan A: the note, whether a quantum is open, its ticks, and the quanta begun
+-- the note, whether a quantum is open, its ticks, and the quanta begun
 state-kept : State → List ℕ
 state-kept s = note-shown (s .note) ++ quantum-kept s ++ (s .begun ∷ [])
 
+-- .. after calls of a job of Plan A in a state, and of a fresh job
 kept-from : State → List Call → List ℕ
 kept-from s calls = state-kept (run-calls (plan-of plan-a) calls (record { state = s; refusals = 0 }) .state)
 
--- the same after calls of a fresh job
 offer-kept : List ℕ → List Call → List ℕ
 offer-kept bytes calls = state-kept (after-calls bytes calls)
 
@@ -613,7 +613,7 @@ offer-rows =
     (1 ∷ 1 ∷ 1 ∷ 1 ∷ 3 ∷ 2 ∷ 0 ∷ 0 ∷ 0 ∷ 1 ∷ [])
     ∷ row (counted (chain 3 80 1 4) (grants 1 ∷ ticks (0 ∷ []) ∷ offers 3 ∷ opens 2 ∷ ticks (0 ∷ 0 ∷ []) ∷ []))
     (1 ∷ 2 ∷ 4 ∷ 1 ∷ 2 ∷ 2 ∷ 0 ∷ 1 ∷ 0 ∷ 0 ∷ [])
-    -- what was offered is no count granted so far: with 4,095 rounds begun an offer, a withdrawal, and one more offer leave a round to open
+    -- an offer is no round begun: with 4,095 begun an offer, a withdrawal and one more offer leave a round to open
     ∷ row (kept-from (fresh-with 4095) (offers 1 ∷ withdraws ∷ offers 1 ∷ opens 1 ∷ [])) (0 ∷ 1 ∷ 0 ∷ 4096 ∷ [])
     -- the status goes by what is opened
     ∷ row (statuses plan-a (offers 1 ∷ opens 1 ∷ ticks (0 ∷ []) ∷ ticks (0 ∷ []) ∷ offers 2 ∷ opens 0 ∷ []))
