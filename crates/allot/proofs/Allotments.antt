@@ -2,7 +2,7 @@
 use mathlib.Core.Path.{_≡_, refl, sym, ap, _∙_}
 use mathlib.Core.Bool.{false, not}
 use mathlib.Core.List.{List, [], _∷_, _++_}
-use Prim.Native.Nat.{ℕ, zero, suc, _≤_, _<_}
+use Prim.Native.Nat.{ℕ, zero, suc, _<_}
 use native.Mathlib.Omega.{arith}
 use native.Mathlib.Nat.{sub-zero}
 use lib.ListN.{length, set}
@@ -14,7 +14,7 @@ use Rattle.memory.specs.declared.Deque.{Deque}
 use Rattle.memory.specs.Parts.{Parts, parts, SameButEnds}
 use Rattle.memory.specs.Words.{word, word-count, Numbers, numbers-in, started-in, SameTail}
 use Rattle.memory.specs.View.{walk, put-part, deques-view, muggable-view, view}
-use Rattle.memory.proofs.Views.{workers-shown, muggable-shown, put-places, put-deques, put-muggable}
+use Rattle.memory.proofs.Views.{muggable-shown, put-places, put-deques, put-muggable}
 use Rattle.memory.proofs.Words.{by-words, tail-then, tail-store}
 use Rattle.allot.specs.Grants.{Joined, joining-withdrawn, Withdrawable, Cleared, numbers-after, Grantable, Granted}
 use Rattle.allot.proofs.Ring.{ends-moved, moved-then}
@@ -61,9 +61,6 @@ module _ {memory words : List ℕ} {g : ℕ} (w : Grantable memory words g) wher
   abbrev m : Numbers
   m = numbers-in words
 
-  some-workers : m .workers ≤ 64
-  some-workers = rw (workers-shown (p .next) (p .ends) (m .workers)) at (w .bounded .workers)
-
   pub withdrawable : Withdrawable (p .ends) (m .head) (m .waiting) g (m .workers)
   withdrawable =
       let next = p .next in
@@ -71,9 +68,9 @@ module _ {memory words : List ℕ} {g : ℕ} (w : Grantable memory words g) wher
       record {
         places = w .places;
         head-in-ring = w .head-in-ring;
-        some-workers = some-workers;
+        some-workers = w .few-workers;
         links = next;
-        room = omega (arith, w .bounded .lines, kept-and-withdrawn-busy g (deques-view next (p .ends) (m .workers)));
+        room = omega (arith, w .room, kept-and-withdrawn-busy g (deques-view next (p .ends) (m .workers)));
       }
 
   -- what the grant leaves of the deques, and adds to the muggable ones
@@ -107,7 +104,7 @@ module _ {memory words : List ℕ} {g : ℕ} (w : Grantable memory words g) wher
       (j : Joined (m .head) (p .ends) (m .waiting) (q .ends) waiting (joining-withdrawn (p .ends) g (m .workers)) × SameButEnds p q)
       (c : Cleared (q .ends) (m .workers) g (r .ends) × SameButEnds q r) where
     kept-shown : (next : List ℕ) → deques-view next (r .ends) g ≡ kept next
-    kept-shown next = c .0 .kept next ∙ ap (kept-deques g) (j .0 .workers-stay next (m .workers) some-workers)
+    kept-shown next = c .0 .kept next ∙ ap (kept-deques g) (j .0 .workers-stay next (m .workers) (w .few-workers))
 
     ring-shown : (next : List ℕ) → muggable-view next (r .ends) (m .head) waiting ≡ with-withdrawn next
     ring-shown next = c .0 .ring-stays next (m .head) waiting ∙ j .0 .at-end next

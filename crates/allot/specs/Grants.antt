@@ -6,7 +6,7 @@ use Prim.Native.Nat.{ℕ, _+_, _≤_, _<_}
 use lib.ListN.{length, getD}
 use Rattle.model.specs.Tests.{keep, is-empty}
 use Rattle.model.specs.Machine.{State, grant, kept-deques, withdrawn-deques}
-use Rattle.laws.specs.Invariants.{Bounded}
+use Rattle.model.specs.Lines.{deques-in-use}
 use Rattle.memory.specs.Parts.{parts, SameButEnds}
 use Rattle.memory.specs.Words.{word-count, Numbers, numbers-in, started-in, SameTail}
 use Rattle.memory.specs.View.{size-at, deque-at, deques-view, muggable-view, view}
@@ -74,7 +74,9 @@ pub record Grantable (memory words : List ℕ) (g : ℕ) : Type 0 where
   pub places : length (parts memory .ends) ≡ 256
   pub head-in-ring : numbers-in words .head < 64
   pub at-most : g ≤ 64
-  pub bounded : Bounded 64 (view (parts memory) (numbers-in words))
+  pub few-workers : numbers-in words .workers ≤ 64
+  -- request U12: so the ring's 64 places hold what waits and what is withdrawn
+  pub room : deques-in-use (view (parts memory) (numbers-in words)) ≤ 64
   -- before anything above 0 was granted there is no worker
   pub unstarted : started-in words ≡ false → numbers-in words .workers ≡ 0
 

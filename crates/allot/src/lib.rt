@@ -8,7 +8,8 @@ ghost use Rattle.memory.specs.Parts.{parts, parts-before, parts-after, SameButE
 ghost use Rattle.allot.specs.Grants.{Joined, joining-deque, Joinable, joining-withdrawn, Withdrawable, Cleared, Grantable, Granted};
 use memory::Deque;
 
-// A worker's deque joins the end of the muggable ones; an empty one vanishes. How many wait then.
+// A worker's deque joins the end of the muggable ones; an empty one vanishes. How many wait then. Their ring has 64 places: together with
+// the workers' non-empty deques they never number more (request U12), so what waits is never written over.
 fn join(memory: &mut Memory, head: usize, waiting: usize, worker: usize) -> usize
     requires { ⌜ Joinable (parts (now memory) .ends) head waiting worker ⌝ }
     ensures joined { λ r. ⌜ Joined head (parts-before memory .ends) waiting (parts-after memory .ends) r

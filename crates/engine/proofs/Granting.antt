@@ -21,7 +21,7 @@ use Rattle.clock.specs.Clock.{Openable, Opened}
 use Rattle.allot.specs.Grants.{Grantable, Granted}
 use Rattle.engine.specs.Reached.{Reached}
 use Rattle.engine.specs.Moves.{Moves}
-use Rattle.engine.proofs.Known.{known-arranged, known-measured, words-fit}
+use Rattle.engine.proofs.Known.{known-arranged, known-lines, words-fit}
 use Rattle.engine.proofs.Moving.{plan-stays, accepted-moves}
 
 -- ---- an accepted grant
@@ -42,7 +42,8 @@ module _ {plan : Plan} {calls : List Call} {memory words : List ℕ} (g : ℕ) (
         places = r .parts-sized .places;
         head-in-ring = r .kept .head-in-ring;
         at-most = omega (arith, facts .wanted, words-fit r .desire-fits);
-        bounded = known-measured r .deques-at-most;
+        few-workers = words-fit r .workers-fit;
+        room = known-lines r;
         unstarted = λ off.
             sym (workers-shown (parts memory .next) (parts memory .ends) (numbers-in words .workers))
             ∙ ap length (known-arranged r .before off .no-deques);

@@ -5,11 +5,12 @@ use mathlib.Core.List.{List}
 use Prim.Native.Nat.{_≤_}
 use native.Mathlib.Omega.{arith}
 use Rattle.model.specs.Plan.{Growth, Plan}
-use Rattle.model.specs.Machine.{Wish, State, Call}
+use Rattle.model.specs.Machine.{Wish, State, allotment, most-workers, Call}
 use Rattle.model.specs.History.{run}
 use Rattle.model.specs.Statements.{SoundPlan, WithinBounds}
+use Rattle.model.specs.Lines.{deques-in-use}
 use Rattle.laws.specs.Reached.{Arranged, Measured, CountsFit}
-use Rattle.laws.proofs.Theorems.{arranged, measured, counts-fit, desire-is-power}
+use Rattle.laws.proofs.Theorems.{arranged, measured, counts-fit, desire-is-power, lines-bounded}
 use Rattle.plan.proofs.Sound.{accepted-sound, within-bounds}
 use Rattle.quantum.specs.Closing.{Desired}
 use Rattle.memory.specs.declared.Job.{Job}
@@ -60,6 +61,17 @@ module _ {plan : Plan} {calls : List Call} {job : Job} (r : Reached plan calls j
         power-at-most = power .power-at-most;
       }))
 
+  -- request U12's law: the deques in use, and the workers, number at most 64
+  pub known-lines : deques-in-use (job-state job .execution) ≤ most-workers
+  known-lines =
+      let bounded = lines-bounded (plan-sound (r .accepted-plan)) calls in
+      rw (r .its-state) (omega (arith, bounded .after-calls, bounded .at-most-64))
+
+  pub known-workers : allotment (job-state job) ≤ most-workers
+  known-workers =
+      let bounded = lines-bounded (plan-sound (r .accepted-plan)) calls in
+      rw (r .its-state) (omega (arith, bounded .present-included, bounded .at-most-64))
+
   pub words-fit : InRange (job .words)
   unfolding job-plan job-state
   words-fit =
@@ -68,9 +80,7 @@ module _ {plan : Plan} {calls : List Call} {job : Job} (r : Reached plan calls j
       record {
         tasks-fit = few;
         done-fits = omega (arith, few, done-at-most (job-parts job) (job-numbers job) (r .kept .done-right));
-        workers-fit =
-            rw (← workers-shown (job-parts job .next) (job-parts job .ends) (job-numbers job .workers))
-            (known-measured .deques-at-most .workers);
+        workers-fit = rw (← workers-shown (job-parts job .next) (job-parts job .ends) (job-numbers job .workers)) known-workers;
         desire-fits = known-measured .wanted;
         power-fits = known-wish .power-at-most;
       }

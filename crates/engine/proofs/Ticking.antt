@@ -28,7 +28,8 @@ use Rattle.clock.specs.Clock.{tick-counted, quantum-ended, Countable, TickEnded
 use Rattle.engine.specs.Reached.{Reached}
 use Rattle.engine.specs.Moves.{Moves}
 use Rattle.call_questions.proofs.Asking.{tick-asking}
-use Rattle.engine.proofs.Known.{known-sound, known-bounds, known-arranged, known-measured, known-numbers, known-wish, words-fit}
+use Rattle.engine.proofs.Known.{known-sound, known-bounds, known-arranged, known-measured, known-workers, known-numbers}
+use Rattle.engine.proofs.Known.{known-wish, words-fit}
 use Rattle.engine.proofs.Moving.{plan-stays, accepted-moves}
 
 -- an open quantum's flag is set
@@ -82,7 +83,7 @@ module _ {plan : Plan} {calls : List Call} {memory words : List ℕ} (choices : 
               placed =
                   workers-placed (known-arranged r)
                   (rw (workers-shown (parts memory .next) (parts memory .ends) (numbers-in words .workers)) some);
-              bounded = known-measured r .deques-at-most;
+              few-workers = known-workers r;
             };
         kept = r .kept;
       }

@@ -1,18 +1,20 @@
--- Demands 2 and 3, request U6's sum, request U9's ticks and request U5's offers, over a job that a plan and a list of calls, refused ones
--- included, reach. The history is made from the plan and the calls alone; what the job shows is compared with it.
+-- Demands 2 and 3, request U6's sum, request U9's ticks, request U5's offers and request U12's lines, over a job that a plan and a list of
+-- calls, refused ones included, reach. The history is made from the plan and the calls alone; what the job shows is compared with it.
 use mathlib.Core.Path.{_≡_}
 use mathlib.Core.Bool.{true, false}
 use mathlib.Core.Logic.{_↔_}
 use mathlib.Core.List.{List}
-use Prim.Native.Nat.{ℕ, _+_, _<_}
+use Prim.Native.Nat.{ℕ, _+_, _≤_, _<_}
 use lib.ListN.{getD}
 use Rattle.model.specs.Plan.{Plan, tasks}
-use Rattle.model.specs.Machine.{worked, Call, status}
+use Rattle.model.specs.Questions.{accepted}
+use Rattle.model.specs.Machine.{worked, Call, ticks, call-answer, status}
 use Rattle.model.specs.History.{run, work-count, mug-count}
 use Rattle.model.specs.Statements.{Demand3, OnceAndInOrder}
-use Rattle.model.specs.WholeTicks.{worker-ticks}
+use Rattle.model.specs.WholeTicks.{worker-ticks, after-workers}
 use Rattle.model.specs.Lasting.{TicksAreWork, OnlyFrontsBegun}
 use Rattle.model.specs.Offers.{OfferThenOpen}
+use Rattle.model.specs.Lines.{deques-in-use, largest-granted, LinesBounded}
 use Rattle.memory.specs.declared.Job.{Job}
 use Rattle.memory.specs.Jobs.{job-numbers, job-state}
 
@@ -36,3 +38,9 @@ pub record JobDemands (plan : Plan) (calls : List Call) (job : Job) : Type 0 whe
   -- request U5: an offer that is opened is a grant of the opened count, one that is withdrawn is nothing, and while it is noted nothing
   -- else moves the job
   pub offer-then-open : OfferThenOpen plan calls
+  -- request U12: the lines and orphans that the record shows, and those inside a tick after each worker's cycle, number at most the largest
+  -- count granted so far, so at most 64, with at most N pieces in them: what a maker may lay out once
+  pub lines-bounded : LinesBounded plan calls
+  pub shows-lines : deques-in-use (job-state job .execution) ≤ largest-granted (run plan calls)
+  pub lines-inside : (choices : List ℕ) → call-answer (ticks choices) (job-state job) ≡ accepted → (w : ℕ) →
+      deques-in-use (after-workers plan (job-state job) choices w) ≤ largest-granted (run plan calls)

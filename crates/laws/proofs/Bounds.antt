@@ -1,21 +1,26 @@
--- How many deques and how many tasks there are: the non-empty deques and the muggable ones number no more than before a worker's cycle,
--- because a steal happens only when no muggable deque waits; and all deques of a placed execution together hold at most N tasks.
+-- How many deques and how many tasks there are: what a worker's cycle makes of the number of deques in use (`cycle-lines`); where that
+-- number is at most some number of workers or more, it stays so, because a steal happens only when no muggable deque waits
+-- (`cycles-bounded`); and all deques of a placed execution together hold at most N tasks.
 -- Assumes nothing.
 use mathlib.Core.Path.{_≡_, refl, ap, _∙_}
 use mathlib.Core.Bool.{Bool, true, false, cond}
-use mathlib.Core.List.{List, [], _∷_, _++_, tail, List·Memᴰ, List·Memᴰ·head, List·Memᴰ·tail}
+use mathlib.Core.List.{List, [], _∷_, _++_, map, tail, List·Memᴰ, List·Memᴰ·head, List·Memᴰ·tail}
 use Prim.Native.Nat.{ℕ, zero, suc, _+_, _≤_, _<_}
 use native.Mathlib.Nat.{not-suc-le-zero}
 use native.Mathlib.Omega.{arith}
 use lib.Dec.{eqb}
 use lib.ListN.{length, getD, set, length-set, length-append}
+use lib.Seq.{getD-set-same, getD-set-other}
 use borrow.Author.Tests.{eqb-false}
-use Rattle.model.specs.Tests.{occurrences}
+use Rattle.model.specs.Tests.{occurrences, total}
 use Rattle.model.specs.Plan.{Graph, tasks}
 use Rattle.model.specs.Machine.{Execution, deque-of, one-tick-less, worked-deque, left-by-steal, taken-by-steal, work-cycle, mug-cycle}
-use Rattle.model.specs.Machine.{successful-steal, failed-steal, cycle, cycles}
+use Rattle.model.specs.Machine.{successful-steal, failed-steal, cycle-of, cycle, cycles}
+use Rattle.model.specs.Lines.{LinesAfter, tasks-in-deques}
 use Rattle.laws.specs.Invariants.{in-deques, Placed, Bounded}
-use Rattle.laws.proofs.Deques.{one-if-filled, one-at-most, busy-set, busy-at-most, occurrences-append, occurs}
+use Rattle.laws.proofs.Deques.{one-if-filled, one-at-most, filled-is-one, empty-or-filled, busy-set, busy-at-most}
+use Rattle.laws.proofs.Deques.{occurrences-append, occurs}
+use Rattle.laws.proofs.Stealing.{left-filled, half-taken, apart, victim-within}
 use Rattle.laws.proofs.Cycles.{cycle-cases, cycles-keep}
 use Rattle.laws.proofs.Placement.{stands, standing-once}
 
@@ -61,6 +66,43 @@ cycle-bounded {most} {e} graph b w choice here =
           };
       failing = λ own none few. vain-bounded b;
     })
+
+-- ---- exactly
+
+pub cycle-lines : (graph : Graph) (e : Execution) (w choice : ℕ) → w < length (e .deques) →
+    LinesAfter e w (cycle-of w choice e) (cycle graph w choice e)
+unfolding work-cycle mug-cycle successful-steal failed-steal
+cycle-lines graph e w choice here =
+    cycle-cases graph w choice e (LinesAfter e w)
+    (record {
+      working = λ t rest own.
+          let new : List ℕ = worked-deque graph (one-tick-less t (e .left)) t (deque-of e w) in
+          let left : one-if-filled (deque-of e w) ≡ 1 = ap one-if-filled own in
+          rw (getD-set-same (e .deques) w new [] here) (omega (arith, busy-set (e .deques) w new here, empty-or-filled new));
+      mugging = λ oldest others own waiting some.
+          let empty : one-if-filled (deque-of e w) ≡ 0 = ap one-if-filled own in
+          let more : length (e .muggable) ≡ suc (length others) = ap length waiting in
+          let fewer : length (tail (e .muggable)) ≡ length others = ap (λ (ds : List (List ℕ)). length (tail ds)) waiting in
+          omega (arith, busy-set (e .deques) w oldest here, filled-is-one oldest some);
+      stealing = λ own none two.
+          let victim : List ℕ = deque-of e choice in
+          let robbed : List (List ℕ) = set (e .deques) choice (left-by-steal victim) in
+          let there : w < length robbed = rw length-set here in
+          let untouched : getD robbed w [] ≡ [] =
+          getD-set-other (e .deques) choice w (left-by-steal victim) [] (apart e w choice own two) ∙ own in
+          let empty : one-if-filled (getD robbed w []) ≡ 0 = ap one-if-filled untouched in
+          omega (
+            arith,
+            busy-set robbed w (taken-by-steal victim) there,
+            busy-set (e .deques) choice (left-by-steal victim) (victim-within e w choice own two),
+            filled-is-one victim (omega arith),
+            filled-is-one (left-by-steal victim) (left-filled victim two),
+            filled-is-one (taken-by-steal victim) (omega (arith, half-taken victim)),
+          );
+      failing = λ own none few. refl;
+    })
+
+-- ---- a tick's cycles
 
 pub cycles-bounded : {most : ℕ} {e : Execution} → (graph : Graph) → Bounded most e → (w : ℕ) (choices : List ℕ) →
     w + length choices ≤ length (e .deques) → Bounded most (cycles graph w choices e)
@@ -123,6 +165,11 @@ deque-within [] w = omega arith
 deque-within (d ∷ ds) zero = omega (arith, length-append d (tasks-of ds))
 deque-within (d ∷ ds) (suc w) = omega (arith, length-append d (tasks-of ds), deque-within ds w)
 
+lengths-of : (ds : List (List ℕ)) → total (map length ds) ≡ length (tasks-of ds)
+unfolding total tasks-of
+lengths-of [] = refl
+lengths-of (d ∷ ds) = omega (arith, length-append d (tasks-of ds), lengths-of ds)
+
 module _ {graph : Graph} {e : Execution} (placed : Placed graph e) where
   -- all deques together hold at most N tasks
   pub tasks-standing : length (tasks-of (e .deques)) + length (tasks-of (e .muggable)) ≤ tasks graph
@@ -143,6 +190,10 @@ module _ {graph : Graph} {e : Execution} (placed : Placed graph e) where
             occurrences-tasks-of t (e .deques),
             occurrences-tasks-of t (e .muggable),
           )
+
+  -- .. by the deques' lengths
+  pub tasks-at-most : tasks-in-deques e ≤ tasks graph
+  tasks-at-most = omega (arith, tasks-standing, lengths-of (e .deques), lengths-of (e .muggable))
 
   pub worker-length : (w : ℕ) → length (deque-of e w) ≤ tasks graph
   worker-length w = omega (arith, deque-within (e .deques) w, tasks-standing)

@@ -12,7 +12,8 @@ use borrow.Author.Tests.{eqb-true, eq-eqb}
 use Rattle.model.specs.Tests.{keep, is-empty, member, occurrences}
 use Rattle.lists.proofs.Tests.{true-is-not-false}
 use Rattle.lists.proofs.Lists.{member-is}
-use Rattle.laws.specs.Invariants.{in-deques, busy}
+use Rattle.model.specs.Lines.{busy}
+use Rattle.laws.specs.Invariants.{in-deques}
 
 -- ---- how often a number stands in a list
 
@@ -128,6 +129,14 @@ one-if-filled d = cond (is-empty d) 0 1
 pub one-at-most : (d : List ℕ) → one-if-filled d ≤ 1
 one-at-most [] = omega arith
 one-at-most (x ∷ d) = omega arith
+
+pub filled-is-one : (d : List ℕ) → 1 ≤ length d → one-if-filled d ≡ 1
+filled-is-one [] h = absurd (not-suc-le-zero h)
+filled-is-one (x ∷ d) h = refl
+
+pub empty-or-filled : (d : List ℕ) → one-if-filled d + cond (is-empty d) 1 0 ≡ 1
+empty-or-filled [] = refl
+empty-or-filled (x ∷ d) = refl
 
 pub busy-set : (ds : List (List ℕ)) (w : ℕ) (d : List ℕ) → w < length ds →
     busy (set ds w d) + one-if-filled (getD ds w []) ≡ busy ds + one-if-filled d

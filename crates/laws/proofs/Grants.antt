@@ -3,9 +3,9 @@
 -- Assumes nothing.
 use mathlib.Core.Path.{_≡_, refl, sym, ap, _∙_}
 use mathlib.Core.Bool.{Bool, true, false, cond}
-use mathlib.Core.List.{List, [], _∷_}
+use mathlib.Core.List.{List, [], _∷_, append-nil}
 use Prim.Native.Nat.{ℕ, zero, suc, _+_, _-_, _≤_, max}
-use native.Mathlib.Nat.{not-suc-le-zero, sub-zero}
+use native.Mathlib.Nat.{not-suc-le-zero, sub-zero, zero-sub}
 use native.Mathlib.Omega.{arith}
 use lib.Dec.{eqb, ltb}
 use lib.ListN.{length, take, drop, replicate, length-append, length-take, length-replicate, length-reverse}
@@ -14,7 +14,8 @@ use Rattle.model.specs.Tests.{every, keep, occurrences, zeros}
 use Rattle.model.specs.Plan.{Plan, Graph, tasks}
 use Rattle.model.specs.Machine.{State, allotment, kept-deques, withdrawn-deques, first-task-placed, place-first-task, grant}
 use Rattle.model.specs.Statements.{SoundPlan, SoundGraph}
-use Rattle.laws.specs.Invariants.{in-deques, busy, waiting-work, Placed, Bounded}
+use Rattle.model.specs.Lines.{busy, deques-in-use}
+use Rattle.laws.specs.Invariants.{in-deques, waiting-work, Placed, Bounded}
 use Rattle.laws.specs.Reached.{Unstarted}
 use Rattle.lists.proofs.Tests.{true-is-not-false}
 use Rattle.laws.proofs.Deques.{non-empty, in-deques-append, in-deques-reverse, in-deques-split, in-deques-non-empty, in-deques-empty}
@@ -117,20 +118,38 @@ module _ (s : State) (on : s .started ≡ true) (g : ℕ) where
         ordered = placed .ordered;
       })
 
-  pub grant-bounded : {most : ℕ} → Bounded most (s .execution) → Bounded (max most g) (grant g s .execution)
+  -- a withdrawn line becomes an orphan, and a new one is empty
+  pub grant-lines : deques-in-use (grant g s .execution) ≡ deques-in-use (s .execution)
   unfolding grant first-task-placed
-  grant-bounded b =
+  grant-lines =
       rw on
-      (record {
-        workers = omega (arith, kept-length g (s .execution .deques));
-        lines =
-            omega (
-              arith,
-              length-append (s .execution .muggable) (withdrawn-deques g (s .execution .deques)),
-              kept-and-withdrawn-busy g (s .execution .deques),
-              b .lines,
-            );
-      })
+      (omega (
+        arith,
+        length-append (s .execution .muggable) (withdrawn-deques g (s .execution .deques)),
+        kept-and-withdrawn-busy g (s .execution .deques),
+      ))
+
+  pub grant-bounded : {most : ℕ} → Bounded most (s .execution) → Bounded (max most g) (grant g s .execution)
+  grant-bounded b = record { workers = omega (arith, grant-allotment g s); lines = omega (arith, grant-lines, b .lines) }
+
+-- ---- a grant of 0, started or not
+
+-- no deque is kept in which task 0 could be placed
+none-kept : (started : Bool) (ds : List (List ℕ)) → first-task-placed started (kept-deques 0 ds) ≡ kept-deques 0 ds
+unfolding first-task-placed kept-deques
+none-kept true ds = refl
+none-kept false ds = rw (zero-sub (length ds)) refl
+
+pub grant-of-0-lines : (s : State) → deques-in-use (grant 0 s .execution) ≡ deques-in-use (s .execution)
+unfolding grant
+grant-of-0-lines s =
+    let ds = s .execution .deques in
+    omega (
+      arith,
+      ap busy (none-kept (s .started) ds),
+      length-append (s .execution .muggable) (withdrawn-deques 0 ds),
+      kept-and-withdrawn-busy 0 ds,
+    )
 
 -- ---- the first grant above 0
 
@@ -157,6 +176,14 @@ first-waiting {graph} sound (suc t) = go (ltb (suc t) (tasks graph)) refl ∙ sy
         (others-not-ready sound (suc t) (omega arith) (ltb-true (suc t) (tasks graph) h))
     go false h = not-waiting-outside graph (replicate (tasks graph) false) (suc t) (ltb-false (suc t) (tasks graph) h)
 
+-- .. and its deque is the only one
+pub first-grant-lines : (g : ℕ) (s : State) → s .started ≡ false → s .execution .deques ≡ [] → 1 ≤ g →
+    deques-in-use (grant g s .execution) ≡ suc (deques-in-use (s .execution))
+unfolding grant first-task-placed busy
+first-grant-lines zero s off none l = absurd (not-suc-le-zero l)
+first-grant-lines (suc n) s off none l =
+    rw (off, none, first-deques n, none-withdrawn (suc n) [] (omega arith), append-nil) (omega (arith, busy-empty n))
+
 module _ {plan : Plan} (s : State) (off : s .started ≡ false) (u : Unstarted plan (s .execution)) where
   pub first-grant-placed : SoundPlan plan → (g : ℕ) → 1 ≤ g → Placed (plan .graph) (grant g s .execution)
   unfolding grant first-task-placed every in-deques occurrences
@@ -173,15 +200,13 @@ module _ {plan : Plan} (s : State) (off : s .started ≡ false) (u : Unstarted p
       })
 
   pub first-grant-bounded : (g : ℕ) → 1 ≤ g → Bounded g (grant g s .execution)
-  unfolding grant first-task-placed busy
-  first-grant-bounded zero l = absurd (not-suc-le-zero l)
-  first-grant-bounded (suc n) l =
-      let none : List ℕ = [] in
-      rw (off, u .no-deques, u .no-muggable, first-deques n, none-withdrawn (suc n) [] (omega arith))
-      (record {
-        workers = omega (arith, length-replicate n none);
-        lines = omega (arith, busy-empty n);
-      })
+  unfolding busy
+  first-grant-bounded g l =
+      let none-before : deques-in-use (s .execution) ≡ 0 = rw (u .no-deques, u .no-muggable) refl in
+      record {
+        workers = omega (arith, grant-allotment g s);
+        lines = omega (arith, first-grant-lines g s off (u .no-deques) l);
+      }
 
   -- a grant of 0 before it leaves nothing anywhere
   pub no-grant-unstarted : Unstarted plan (grant 0 s .execution)

@@ -1,30 +1,28 @@
--- What holds after any list of calls, refused ones included: where the tasks stand (`arranged`), that the deques number at most the largest
--- count granted so far (`largest-bounds`) and at most 64, and how large each count can be (`measured`, `counts-fit`).
+-- What holds after any list of calls, refused ones included: where the tasks stand (`arranged`).
 -- Assumes nothing.
 use mathlib.Core.Path.{_≡_, refl, sym, ap, _∙_}
 use mathlib.Core.Bool.{Bool, true, false}
-use mathlib.Core.List.{List, [], _∷_, _++_}
-use Prim.Native.Nat.{ℕ, zero, suc, _≤_, max}
+use mathlib.Core.List.{List, [], _∷_}
+use Prim.Native.Nat.{ℕ, zero, suc, _≤_}
 use native.Mathlib.Omega.{arith}
 use lib.ListN.{length}
 use borrow.Author.Tests.{ne-eqb}
 use Rattle.model.specs.Tests.{total}
 use Rattle.model.specs.Plan.{Plan, tasks}
-use Rattle.model.specs.Machine.{worked, Execution, State, allotment, idle, fresh, grant, cycles, cycles-made, tick}
-use Rattle.model.specs.Machine.{ticked, closed, Call}
-use Rattle.model.specs.History.{ClosedQuantum, CurrentQuantum, none, begun-with, History, beginning, history-grant, history-tick, verdict}
+use Rattle.model.specs.Machine.{worked, Execution, State, allotment, fresh, grant, cycles, cycles-made, tick}
+use Rattle.model.specs.Machine.{Call}
+use Rattle.model.specs.History.{beginning, history-grant, history-tick}
 use Rattle.model.specs.History.{run}
 use Rattle.model.specs.Statements.{SoundPlan}
-use Rattle.laws.specs.Invariants.{busy, Placed, Bounded, Tallied}
-use Rattle.laws.specs.Reached.{Unstarted, Arranged, granted-in, largest-closed, largest-granted}
+use Rattle.laws.specs.Invariants.{Placed, Tallied}
+use Rattle.laws.specs.Reached.{Unstarted, Arranged}
 use Rattle.lists.proofs.Tests.{true-is-not-false}
 use Rattle.lists.proofs.Sums.{zeros-length}
 use Rattle.laws.proofs.Placement.{cycles-placed, cycles-tallied}
-use Rattle.laws.proofs.Bounds.{bounded-more, cycles-bounded}
-use Rattle.laws.proofs.Grants.{grant-placed, grant-bounded, first-grant-placed, first-grant-bounded}
+use Rattle.laws.proofs.Grants.{grant-placed, first-grant-placed}
 use Rattle.laws.proofs.Grants.{no-grant-unstarted}
-use Rattle.laws.proofs.Accepted.{TickAccepted, not-idle, tick-execution, tick-started}
-use Rattle.laws.proofs.Runs.{history-closed, run-keeps, by-moves}
+use Rattle.laws.proofs.Accepted.{TickAccepted, tick-execution, tick-started}
+use Rattle.laws.proofs.Runs.{run-keeps}
 
 -- ---- where the tasks stand
 
@@ -120,73 +118,3 @@ module _ {plan : Plan} {s : State} (a : Arranged plan s) where
 
   pub work-at-most : s .execution .counts .works .work ≤ total (plan .durations)
   work-at-most = omega (arith, a .tally .work-is-ticks)
-
--- ---- how many deques
-
-pub unstarted-bounded : {plan : Plan} {e : Execution} (most : ℕ) → Unstarted plan e → Bounded most e
-unfolding busy
-unstarted-bounded {plan} {e} most u =
-    let a : length (e .deques) ≡ 0 = ap length (u .no-deques) in
-    let b : busy (e .deques) ≡ 0 = ap busy (u .no-deques) in
-    let c : length (e .muggable) ≡ 0 = ap length (u .no-muggable) in
-    record { workers = omega arith; lines = omega arith }
-
-pub arranged-grant-bounded : {plan : Plan} {s : State} {most : ℕ} → Arranged plan s → Bounded most (s .execution) → (g : ℕ) →
-    Bounded (max most g) (grant g s .execution)
-arranged-grant-bounded {plan} {s} {most} a b g = go (s .started) refl g
-  where
-    go : (on : Bool) → s .started ≡ on → (g : ℕ) → Bounded (max most g) (grant g s .execution)
-    go true on g = grant-bounded s on g b
-    go false off zero = unstarted-bounded (max most 0) (no-grant-unstarted s off (a .before off))
-    go false off (suc n) = bounded-more (omega arith) (first-grant-bounded s off (a .before off) (suc n) (omega arith))
-
-largest-append : (xs ys : List ClosedQuantum) → largest-closed (xs ++ ys) ≡ max (largest-closed xs) (largest-closed ys)
-unfolding largest-closed
-largest-append [] ys = omega arith
-largest-append (q ∷ xs) ys = omega (arith, largest-append xs ys)
-
-largest-verdict : (plan : Plan) (current : CurrentQuantum) (usage : ℕ) → largest-closed (verdict plan current usage) ≡ granted-in current
-unfolding largest-closed
-largest-verdict plan none usage = refl
-largest-verdict plan (begun-with wish granted) usage = omega arith
-
-record Largest (h : History) : Type 0 where
-  none-current : h .state .quantum ≡ idle → granted-in (h .current) ≡ 0
-  at-most : Bounded (largest-granted h) (h .state .execution)
-
--- a quantum's end grants nothing
-closed-largest : (plan : Plan) (h : History) → Largest h → Largest (history-closed plan h)
-unfolding largest-granted closed
-closed-largest plan h l =
-    let usage = h .state .execution .counts .usage in
-    let joined = largest-append (h .closed-quanta) (verdict plan (h .current) usage) in
-    let judged = largest-verdict plan (h .current) usage in
-    record { none-current = λ p. refl; at-most = bounded-more (omega arith) (l .at-most) }
-
-module _ {plan : Plan} (sound : SoundPlan plan) where
-  largest : (calls : List Call) → Largest (run plan calls)
-  largest =
-      by-moves plan Largest
-      (unfold beginning fresh largest-granted in
-      record {
-        none-current = λ p. refl;
-        at-most = unstarted-bounded (max (largest-closed []) 0) (fresh-arranged sound .before refl);
-      })
-      (λ h note l. unfold largest-granted in record { none-current = l .none-current; at-most = l .at-most })
-      (λ done g t l. unfold history-grant largest-granted grant in
-      record {
-        none-current = λ p. absurd (not-idle p);
-        at-most =
-            let z = l .none-current (t .idle-quantum) in
-            bounded-more (omega arith) (arranged-grant-bounded (arranged sound done) (l .at-most) g);
-      })
-      (λ done choices t l. unfold ticked largest-granted in
-      record {
-        none-current = λ p. absurd (not-idle p);
-        at-most = cycles-bounded (plan .graph) (l .at-most) 0 choices (omega (arith, t .one-each));
-      })
-      (λ h closing l. closed-largest plan h l)
-
-  -- the workers' non-empty deques and the muggable ones number at most the largest count granted so far
-  pub largest-bounds : (calls : List Call) → Bounded (largest-granted (run plan calls)) (run plan calls .state .execution)
-  largest-bounds calls = largest calls .at-most

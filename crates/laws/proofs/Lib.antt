@@ -8,7 +8,7 @@
 -- tick's cycles spend. Ladder: what is used of the desires, and that both growths have it. Powers: the open quantum, and what a quantum's
 -- end does to the desire. Tops, Rows: the table of top desires and the rows of whole parts, and that the desire stops there. PairingLaw:
 -- the partners of the inefficient quanta. MugLimitLaw: the balance that bounds the mugs. SpentLaw: what the quanta so far have used, and
--- what 13 tells. Carried: these in one induction. Measures: how large the counts are after any calls.
+-- what 13 tells. Carried: these in one induction. Measures: how large the counts are after any calls. Lines: how many deques there are.
 pub mod Deques
 pub mod Occurrences
 pub mod Withdrawals
@@ -41,4 +41,5 @@ pub mod MugLimitLaw
 pub mod SpentLaw
 pub mod Carried
 pub mod Measures
+pub mod Lines
 pub mod Theorems

@@ -15,17 +15,15 @@ use Rattle.model.specs.Machine.{ticked, closes, closed, finished, most-workers,
 use Rattle.model.specs.History.{beginning, history-grant, history-tick, run}
 use Rattle.model.specs.Statements.{SoundPlan, WithinBounds}
 use Rattle.model.specs.WholeTicks.{all-counted}
-use Rattle.laws.specs.Invariants.{Bounded}
-use Rattle.laws.specs.Reached.{Arranged, OpenQuantum, Measured, CountsFit}
+use Rattle.laws.specs.Reached.{OpenQuantum, Measured, CountsFit}
 use Rattle.lists.proofs.Tests.{true-is-not-false}
 use Rattle.lists.proofs.Sums.{total-at-most}
 use Rattle.laws.proofs.Cycles.{cycles-allotment}
-use Rattle.laws.proofs.Bounds.{bounded-more, cycles-bounded}
 use Rattle.laws.proofs.Grants.{grant-allotment}
 use Rattle.laws.proofs.Meaning.{cycles-counted, all-kinds, successes-are-steals, one-cycle-each}
 use Rattle.laws.proofs.Accepted.{GrantAccepted, TickAccepted, not-idle, tick-cases}
 use Rattle.laws.proofs.Runs.{run-keeps}
-use Rattle.laws.proofs.Histories.{unstarted-bounded, fresh-arranged, arranged, arranged-grant-bounded, work-at-most}
+use Rattle.laws.proofs.Histories.{arranged, work-at-most}
 use Rattle.laws.proofs.Carried.{carried-tick}
 
 not-opened : {k : ℕ} → idle ≡ opened k → ⊥
@@ -40,7 +38,6 @@ module _ {plan : Plan} (sound : SoundPlan plan) where
   fresh-measured =
       record {
         wanted = omega arith;
-        deques-at-most = unstarted-bounded most-workers (fresh-arranged sound .before refl);
         quanta = omega arith;
         current = λ k p. absurd (not-opened p);
         usage-at-most = omega arith;
@@ -52,7 +49,6 @@ module _ {plan : Plan} (sound : SoundPlan plan) where
   noted-measured s note m =
       record {
         wanted = m .wanted;
-        deques-at-most = m .deques-at-most;
         quanta = m .quanta;
         current = λ ticks p.
             let q = m .current ticks p in
@@ -68,12 +64,11 @@ module _ {plan : Plan} (sound : SoundPlan plan) where
         successful = m .successful;
       }
 
-  grant-measured : {s : State} → Arranged plan s → Measured plan s → (g : ℕ) → GrantAccepted g s → Measured plan (grant g s)
-  grant-measured {s} a m g t =
+  grant-measured : {s : State} → Measured plan s → (g : ℕ) → GrantAccepted g s → Measured plan (grant g s)
+  grant-measured {s} m g t =
       unfold grant in
       record {
         wanted = m .wanted;
-        deques-at-most = bounded-more (omega (arith, t .wanted, m .wanted)) (arranged-grant-bounded a (m .deques-at-most) g);
         quanta = t .more-quanta;
         current = λ k p.
             let none-yet = opened-with p in
@@ -97,7 +92,6 @@ module _ {plan : Plan} (sound : SoundPlan plan) where
       (λ c wanted. unfold ticked closed in
       record {
         wanted = wanted;
-        deques-at-most = bound;
         quanta = m .quanta;
         current = λ k p. absurd (not-opened p);
         usage-at-most = omega (arith, used, o .unclosed (t .unfinished), o .usage-so-far, few);
@@ -107,7 +101,6 @@ module _ {plan : Plan} (sound : SoundPlan plan) where
       (λ c wanted. unfold ticked in
       record {
         wanted = m .wanted;
-        deques-at-most = bound;
         quanta = m .quanta;
         current = λ k p.
             let next = opened-with p in
@@ -140,7 +133,7 @@ module _ {plan : Plan} (sound : SoundPlan plan) where
       fits = omega (arith, t .one-each)
 
       few : length (cycles-made (plan .graph) 0 choices e) ≤ most-workers
-      few = omega (arith, one-cycle-each (plan .graph) choices 0 e, t .one-each, m .deques-at-most .workers)
+      few = omega (arith, one-cycle-each (plan .graph) choices 0 e, t .one-each, o .granted, m .wanted)
 
       used : after .counts .usage ≤ e .counts .usage + length (cycles-made (plan .graph) 0 choices e)
       used = omega (arith, cycles-counted (plan .graph) 0 choices e fits .nonsteal-usage, all-kinds (cycles-made (plan .graph) 0 choices e))
@@ -154,9 +147,6 @@ module _ {plan : Plan} (sound : SoundPlan plan) where
       succeeded =
           let c = cycles-counted (plan .graph) 0 choices e fits in
           omega (arith, c .success, c .steal, successes-are-steals (cycles-made (plan .graph) 0 choices e), m .successful)
-
-      bound : Bounded most-workers after
-      bound = cycles-bounded (plan .graph) (m .deques-at-most) 0 choices fits
 
       same-allotment : length (after .deques) ≡ length (e .deques)
       same-allotment = cycles-allotment (plan .graph) choices 0 e fits
@@ -175,7 +165,7 @@ module _ {plan : Plan} (sound : SoundPlan plan) where
       run-keeps plan (λ h. Measured plan (h .state))
       fresh-measured
       (λ h note m. noted-measured (h .state) note m)
-      (λ done g t m. grant-measured (arranged sound done) m g t)
+      (λ done g t m. grant-measured m g t)
       (λ done choices t m. tick-measured m choices t (carried-tick sound done choices t .desire .at-most))
       calls
 

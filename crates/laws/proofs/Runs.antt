@@ -26,7 +26,7 @@ unfolding run-from
 run-from-snoc plan [] h call = refl
 run-from-snoc plan (c ∷ calls) h call = run-from-snoc plan calls (history-step plan c h) call
 
-run-snoc : (plan : Plan) (calls : List Call) (call : Call) → run plan (calls ++ (call ∷ [])) ≡ history-step plan call (run plan calls)
+pub run-snoc : (plan : Plan) (calls : List Call) (call : Call) → run plan (calls ++ (call ∷ [])) ≡ history-step plan call (run plan calls)
 unfolding run
 run-snoc plan calls call = run-from-snoc plan calls (beginning plan) call
 

@@ -16,8 +16,8 @@ use Rattle.model.specs.Muggings.{MuggedInTurn}
 use Rattle.model.specs.WholeTicks.{WholeTicks}
 use Rattle.model.specs.Lasting.{TicksAreWork, WorkIsTasks, OnlyFrontsBegun}
 use Rattle.model.specs.Offers.{OfferThenOpen}
-use Rattle.laws.specs.Invariants.{Bounded}
-use Rattle.laws.specs.Reached.{Arranged, Measured, CountsFit, largest-granted}
+use Rattle.model.specs.Lines.{LinesBounded}
+use Rattle.laws.specs.Reached.{Arranged, Measured, CountsFit}
 use Rattle.laws.specs.Spent.{SpentOnly}
 use Rattle.laws.specs.Meaning.{CountsMean, UsageMeans}
 use Rattle.laws.proofs.PairingLaw.{pairing-of, falls-from-above}
@@ -38,6 +38,7 @@ use Rattle.laws.proofs.Thefts as Thefts
 use Rattle.laws.proofs.Muggings as Muggings
 use Rattle.laws.proofs.WholeTicks as WholeTicks
 use Rattle.laws.proofs.Offers as Offers
+use Rattle.laws.proofs.Lines as Lines
 
 module _ {plan : Plan} (sound : SoundPlan plan) (calls : List Call) where
   -- "While a job is unfinished, each tick with a worker granted does at least one work or mug tick."
@@ -123,11 +124,7 @@ module _ {plan : Plan} (sound : SoundPlan plan) (calls : List Call) where
   pub arranged : Arranged plan (run plan calls .state)
   arranged = Histories.arranged sound calls
 
-  -- non-empty deques and muggable deques together number at most the largest count granted so far
-  pub largest-bounds : Bounded (largest-granted (run plan calls)) (run plan calls .state .execution)
-  largest-bounds = Histories.largest-bounds sound calls
-
-  -- .. so at most 64; and how large each count can be
+  -- how large each count can be
   pub measured : Measured plan (run plan calls .state)
   measured = Measures.measured sound calls
 
@@ -162,6 +159,12 @@ module _ {plan : Plan} (sound : SoundPlan plan) (calls : List Call) where
   -- "In the tick that finishes a job, the workers after the one that finished it shall each count an unsuccessful steal"
   pub whole-ticks : WholeTicks plan calls
   whole-ticks = WholeTicks.whole-ticks plan calls
+
+  -- "after every call, and after every worker's cycle inside a tick, non-empty lines and orphans together number at most the largest count
+  -- granted so far. So 64 always suffices": and in them stand at most the plan's tasks; a cycle or a grant changes the number by one or not
+  -- at all, as said there
+  pub lines-bounded : LinesBounded plan calls
+  lines-bounded = Lines.lines-bounded sound calls
 
   -- "An offer of g meets the grant's questions and only notes g. Opening it takes a count up to g and then does what a grant does; opening
   -- and withdrawing both drop the note": opened it is a grant of the opened count, withdrawn it is nothing; and while it is noted nothing

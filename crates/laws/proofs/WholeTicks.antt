@@ -80,7 +80,7 @@ run-adds-up plan (call ∷ calls) h =
 
 module _ (graph : Graph) where
   -- the turns of the first workers, and then of one more
-  one-more : (choices : List ℕ) (v w : ℕ) (e : Execution) → w < length choices →
+  pub one-more : (choices : List ℕ) (v w : ℕ) (e : Execution) → w < length choices →
       cycles graph v (take (suc w) choices) e ≡ turn graph (v + w) (getD choices w 0) (cycles graph v (take w choices) e)
   unfolding cycles
   one-more [] v w e l = absurd (omega arith)

@@ -8,16 +8,12 @@ use lib.ListN.{length, getD}
 use Rattle.model.specs.Tests.{every, is-empty, occurrences, total}
 use Rattle.model.specs.Plan.{Graph, tasks}
 use Rattle.model.specs.Machine.{Execution, worked, ready}
+use Rattle.model.specs.Lines.{deques-in-use}
 
 -- how often the task t stands in some deques
 unfoldable pub in-deques : ℕ → List (List ℕ) → ℕ
 in-deques t [] = 0
 in-deques t (d ∷ ds) = occurrences t d + in-deques t ds
-
--- how many deques are not empty
-unfoldable pub busy : List (List ℕ) → ℕ
-busy [] = 0
-busy (d ∷ ds) = cond (is-empty d) 0 1 + busy ds
 
 -- the task is one of the plan, ready and not worked
 unfoldable pub waiting-work : Graph → List Bool → ℕ → Bool
@@ -31,10 +27,10 @@ pub record Placed (graph : Graph) (e : Execution) : Type 0 where
   -- a worked task's predecessors are worked: without it a task that is released might be worked already
   pub ordered : (t : ℕ) → getD (worked e) t false ≡ true → ready graph (worked e) t ≡ true
 
--- the non-empty deques and the muggable ones together number at most so many
+-- there are at most so many workers, and the non-empty deques and the muggable ones together number at most as many
 pub record Bounded (most : ℕ) (e : Execution) : Type 0 where
   pub workers : length (e .deques) ≤ most
-  pub lines : busy (e .deques) + length (e .muggable) ≤ most
+  pub lines : deques-in-use e ≤ most
 
 -- work counts the ticks done: with those that are left they are all ticks of the tasks
 pub record Tallied (durations : List ℕ) (e : Execution) : Type 0 where

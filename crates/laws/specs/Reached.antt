@@ -1,14 +1,12 @@
--- What holds of every state that a history reaches, whatever the calls: where its tasks stand, how many deques there are, and how large
--- each count can be.
+-- What holds of every state that a history reaches, whatever the calls: where its tasks stand, and how large each count can be.
 use mathlib.Core.Path.{_≡_, refl}
 use mathlib.Core.Bool.{true, false}
-use mathlib.Core.List.{List, [], _∷_}
-use Prim.Native.Nat.{ℕ, _+_, _*_, _≤_, _<_, max}
+use mathlib.Core.List.{[]}
+use Prim.Native.Nat.{ℕ, _+_, _*_, _≤_, _<_}
 use Rattle.model.specs.Plan.{Plan, most-tasks, longest-quantum, longest-duration}
 use Rattle.model.specs.Machine.{Execution, State, allotment, opened, finished, quantum-limit, most-workers}
-use Rattle.model.specs.History.{ClosedQuantum, CurrentQuantum, none, begun-with, History}
 use Rattle.model.specs.WholeTicks.{all-counted}
-use Rattle.laws.specs.Invariants.{Placed, Bounded, Tallied}
+use Rattle.laws.specs.Invariants.{Placed, Tallied}
 
 -- before a count above 0 is granted nothing stands anywhere, and no tick is done
 pub record Unstarted (plan : Plan) (e : Execution) : Type 0 where
@@ -20,19 +18,6 @@ pub record Arranged (plan : Plan) (s : State) : Type 0 where
   pub before : s .started ≡ false → Unstarted plan (s .execution)
   pub after : s .started ≡ true → Placed (plan .graph) (s .execution)
   pub tally : Tallied (plan .durations) (s .execution)
-
--- ---- the largest count granted so far
-
-abbrev pub granted-in : CurrentQuantum → ℕ
-granted-in none = 0
-granted-in (begun-with wish granted) = granted
-
-unfoldable pub largest-closed : List ClosedQuantum → ℕ
-largest-closed [] = 0
-largest-closed (q ∷ quanta) = max (q .granted) (largest-closed quanta)
-
-unfoldable pub largest-granted : History → ℕ
-largest-granted h = max (largest-closed (h .closed-quanta)) (granted-in (h .current))
 
 -- ---- how large the counts can be
 
@@ -48,7 +33,6 @@ pub record OpenQuantum (plan : Plan) (s : State) (ticks : ℕ) : Type 0 where
 
 pub record Measured (plan : Plan) (s : State) : Type 0 where
   pub wanted : s .wish .desire ≤ most-workers
-  pub deques-at-most : Bounded most-workers (s .execution)
   pub quanta : s .begun ≤ quantum-limit
   pub current : (ticks : ℕ) → s .quantum ≡ opened ticks → OpenQuantum plan s ticks
   pub usage-at-most : s .execution .counts .usage ≤ most-workers * plan .terms .quantum-length

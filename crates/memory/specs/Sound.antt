@@ -10,7 +10,7 @@ use Rattle.model.specs.Plan.{Graph}
 use Rattle.model.specs.Machine.{Execution}
 use Rattle.model.specs.Statements.{SoundGraph}
 use Rattle.laws.specs.Awaited.{still-awaited}
-use Rattle.laws.specs.Invariants.{Placed, Bounded}
+use Rattle.laws.specs.Invariants.{Placed}
 use Rattle.memory.specs.Parts.{Parts}
 use Rattle.memory.specs.Words.{Numbers}
 use Rattle.memory.specs.Graphs.{graph}
@@ -28,7 +28,7 @@ pub record Sizes (p : Parts) : Type 0 where
 -- what the laws of executions tell, with at most 64 workers
 pub record Lawful (graph : Graph) (e : Execution) : Type 0 where
   pub placed : Placed graph e
-  pub bounded : Bounded 64 e
+  pub few-workers : length (e .deques) ≤ 64
 
 -- how many predecessors of a task are not worked
 unfoldable pub awaited : Graph → List Bool → ℕ → ℕ

@@ -16,7 +16,7 @@ walk next front zero = []
 walk next front (suc size) = front ∷ walk next (getD next front 0) size
 
 -- A deque has a place, of which `ends` holds the front and the size side by side. Places 0 to 63 are the workers', by number; 64 to 127
--- are a ring for the muggable deques.
+-- are a ring for the muggable deques. More never wait, by request U12's law (`lines-bounded` of laws).
 abbrev pub front-at : ℕ → ℕ
 front-at place = 2 * place
 

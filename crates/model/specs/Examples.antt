@@ -5,7 +5,7 @@ use mathlib.Core.List.{List, [], _∷_, _++_, map, flatMap}
 use Prim.Native.Nat.{ℕ, suc, _+_, _*_, _-_, _/_, _%_, _^_}
 use lib.Dec.{leb, ltb, eqb}
 use lib.ListN.{length, getD, take, drop, replicate}
-use Rattle.model.specs.Tests.{below, every, keep, member, count-set, all-set, occurrences, zeros}
+use Rattle.model.specs.Tests.{below, every, keep, member, count-set, all-set, occurrences, total, zeros}
 use Rattle.model.specs.Questions.{accepted, refused, answer-number, first-no}
 use Rattle.model.specs.Plan
 use Rattle.model.specs.Plan.{Growth, by-factor, by-tenths, Plan, plan-of, plan-answer, form-field, growth-field, utilization-field}
@@ -19,7 +19,9 @@ use Rattle.model.specs.Statements.{Limit, OneStepLower}
 use Rattle.model.specs.History
 use Rattle.model.specs.History.{ClosedQuantum, CurrentQuantum, none, begun-with, run, work-order, ticks-done}
 use Rattle.model.specs.WholeTicks
-use Rattle.model.specs.WholeTicks.{all-counted, worker-ticks}
+use Rattle.model.specs.WholeTicks.{all-counted, accepted-calls, worker-ticks, after-workers}
+use Rattle.model.specs.Lines
+use Rattle.model.specs.Lines.{deques-in-use, tasks-in-deques, largest-granted, largest-count}
 use Rattle.model.specs.Log
 use Rattle.model.specs.Log.{run-log, run-calls, log-answer}
 use Rattle.model.specs.Label
@@ -67,7 +69,7 @@ plan-a =
     ∷ []
 
 -- the three bytes of a task: successor count, first and second field
-task : ℕ → ℕ → ℕ → List ℕ
+unfoldable pub task : ℕ → ℕ → ℕ → List ℕ
 task count first second = (count * 64 + first / 32) ∷ (first % 32 * 8 + second / 256) ∷ second % 256 ∷ []
 
 -- the four bytes of a task of form 2: the same fields, and its ticks
@@ -75,7 +77,7 @@ lasting : ℕ → ℕ → ℕ → ℕ → List ℕ
 lasting count first second duration = task count first second ++ (duration ∷ [])
 
 -- a plan's bytes: its form, R, D, L, and the bytes of each task
-form-bytes : ℕ → ℕ → ℕ → ℕ → List (List ℕ) → List ℕ
+unfoldable pub form-bytes : ℕ → ℕ → ℕ → ℕ → List (List ℕ) → List ℕ
 form-bytes form r d l ts =
     let h = form * 2 ^ 36 + r * 2 ^ 33 + d * 2 ^ 26 + l * 2 ^ 10 + (length ts - 1) in
     (h / 2 ^ 32 % 256) ∷ (h / 2 ^ 24 % 256) ∷ (h / 2 ^ 16 % 256) ∷ (h / 2 ^ 8 % 256) ∷ (h % 256) ∷ flatMap (λ t. t) ts
@@ -87,7 +89,7 @@ gentle-bytes tenths d l ts =
     (h / 2 ^ 32 % 256) ∷ (h / 2 ^ 24 % 256) ∷ (h / 2 ^ 16 % 256) ∷ (h / 2 ^ 8 % 256) ∷ (h % 256) ∷ flatMap (λ t. t) ts
 
 -- form-bytes of form 1
-plan-bytes : ℕ → ℕ → ℕ → List (List ℕ) → List ℕ
+unfoldable pub plan-bytes : ℕ → ℕ → ℕ → List (List ℕ) → List ℕ
 plan-bytes r d l ts = form-bytes 1 r d l ts
 
 -- Plan A's graph with another R, D or L
@@ -279,9 +281,13 @@ three-thieves : List Call
 three-thieves =
     grants 1 ∷ ticks (0 ∷ []) ∷ grants 1 ∷ ticks (0 ∷ []) ∷ grants 2 ∷ ticks (0 ∷ 1 ∷ []) ∷ grants 4 ∷ ticks (0 ∷ 0 ∷ 0 ∷ 1 ∷ []) ∷ []
 
--- of the seven tasks worker 0 has 3 and 4, and worker 1 has robbed it of 2; a grant of 0 withdraws both
+-- of the seven tasks worker 0 has 3 and 4, and worker 1 has robbed it of 2
+two-at-work : List Call
+two-at-work = grants 1 ∷ ticks (0 ∷ []) ∷ grants 2 ∷ ticks (0 ∷ 0 ∷ []) ∷ []
+
+-- .. and a grant of 0 withdraws both
 two-withdrawn : List Call
-two-withdrawn = grants 1 ∷ ticks (0 ∷ []) ∷ grants 2 ∷ ticks (0 ∷ 0 ∷ []) ∷ grants 0 ∷ []
+two-withdrawn = two-at-work ++ (grants 0 ∷ [])
 
 -- worker 1 has robbed worker 0, and then worker 3 robs worker 1, and worker 2 the one that it chooses
 four-at-work : ℕ → List Call
@@ -338,6 +344,23 @@ offer-kept bytes calls = state-kept (after-calls bytes calls)
 example-1-offered : List Call
 example-1-offered =
     offers 1 ∷ opens 1 ∷ ticks (0 ∷ []) ∷ ticks (0 ∷ []) ∷ offers 2 ∷ opens 2 ∷ ticks (0 ∷ 0 ∷ []) ∷ ticks (0 ∷ 0 ∷ []) ∷ []
+
+-- of the ten tasks worker 0 has 5, 6 and 4, worker 1 has robbed itself in vain, and worker 2 has robbed worker 0 of 2
+one-in-vain : List Call
+one-in-vain = grants 1 ∷ ticks (0 ∷ []) ∷ grants 2 ∷ ticks (0 ∷ 1 ∷ []) ∷ grants 3 ∷ ticks (0 ∷ 1 ∷ 0 ∷ []) ∷ grants 3 ∷ []
+
+-- the deques in use, the largest count granted so far as the history keeps it and as the calls say it, and the tasks in those deques
+lines-after : List ℕ → List Call → List ℕ
+lines-after bytes calls =
+    let plan = plan-of bytes in
+    let h = run plan calls in
+    deques-in-use (h .state .execution) ∷ largest-granted h ∷ largest-count (accepted-calls plan (fresh plan) calls)
+    ∷ tasks-in-deques (h .state .execution) ∷ []
+
+-- the deques in use inside a tick with these choices: before the first worker's cycle, and after each one's
+lines-inside : List ℕ → List Call → List ℕ → List ℕ
+lines-inside bytes calls choices =
+    map (λ w. deques-in-use (after-workers (plan-of bytes) (after-calls bytes calls) choices w)) (below (suc (length choices)))
 
 -- plan reading
 plan-rows : List Row
@@ -630,7 +653,7 @@ withdrawal-rows =
     row (placed (seven 1) two-withdrawn) (1 ∷ 2 ∷ 2 ∷ 3 ∷ 4 ∷ [])
     -- the oldest orphan is picked up, and the next one after it, whole
     ∷ row (placed (seven 1) (two-withdrawn ++ (ticks [] ∷ grants 1 ∷ ticks (0 ∷ []) ∷ []))) (1 ∷ 2 ∷ 2 ∷ 3 ∷ 4 ∷ [])
-    ∷ row (placed (seven 1) (two-withdrawn ++ (ticks [] ∷ grants 2 ∷ ticks (0 ∷ 0 ∷ []) ∷ []))) (1 ∷ 2 ∷ 2 ∷ 3 ∷ 4 ∷ [])
+    ∷ row (placed easy-seven (two-withdrawn ++ (ticks [] ∷ grants 2 ∷ ticks (0 ∷ 0 ∷ []) ∷ []))) (1 ∷ 2 ∷ 2 ∷ 3 ∷ 4 ∷ [])
     -- four workers have the lines 7, 5, 4 and 6
     ∷ row (placed four-lines (four-at-work 0)) (1 ∷ 7 ∷ 1 ∷ 5 ∷ 1 ∷ 4 ∷ 1 ∷ 6 ∷ [])
     -- two grants one after the other with two lines each: workers 3 and 2, whose lines are 6 and 4, then workers 1 and 0 with 9 and 8
@@ -645,6 +668,38 @@ withdrawal-rows =
     (1 ∷ 5 ∷ 1 ∷ 7 ∷ 1 ∷ 4 ∷ 1 ∷ 6 ∷ [])
     -- a gap: of the withdrawn workers 1, 2 and 3 the second robbed itself in vain, and its empty line vanishes
     ∷ row (placed four-lines (four-at-work 2 ++ (grants 1 ∷ []))) (2 ∷ 7 ∷ 4 ∷ 1 ∷ 6 ∷ 1 ∷ 5 ∷ [])
+    ∷ []
+
+-- request U12: "non-empty lines and orphans together number at most the largest count granted so far"
+line-rows : List Row
+line-rows =
+    -- of a fresh job nothing, after a grant of 0 nothing, after one of 1 the line of piece 0
+    row (flatMap (lines-after plan-a) ([] ∷ (grants 0 ∷ []) ∷ (grants 1 ∷ []) ∷ [])) (0 ∷ 0 ∷ 0 ∷ 0 ∷ 0 ∷ 0 ∷ 0 ∷ 0 ∷ 1 ∷ 1 ∷ 1 ∷ 1 ∷ [])
+    -- met at 2: by two lines; by two orphans while 0 are granted, since the count of 2 was granted before; by two orphans beside a new
+    -- worker's empty line; by a line and an orphan
+    ∷ row (lines-after easy-seven two-at-work ++ lines-after easy-seven two-withdrawn) (2 ∷ 2 ∷ 2 ∷ 3 ∷ 2 ∷ 2 ∷ 2 ∷ 3 ∷ [])
+    ∷ row (lines-after easy-seven (two-withdrawn ++ (ticks [] ∷ grants 1 ∷ []))
+    ++ lines-after easy-seven (two-withdrawn ++ (ticks [] ∷ grants 1 ∷ ticks (0 ∷ []) ∷ [])))
+    (2 ∷ 2 ∷ 2 ∷ 3 ∷ 2 ∷ 2 ∷ 2 ∷ 3 ∷ [])
+    -- met at 3 in the middle of a tick, and neither before nor after it: worker 1 robs worker 2, which then works its last piece
+    ∷ row (lines-inside ten one-in-vain (0 ∷ 2 ∷ 0 ∷ [])) (2 ∷ 2 ∷ 3 ∷ 2 ∷ [])
+    ∷ row (lines-after ten one-in-vain ++ lines-after ten (one-in-vain ++ (ticks (0 ∷ 2 ∷ 0 ∷ []) ∷ [])))
+    (2 ∷ 3 ∷ 3 ∷ 4 ∷ 2 ∷ 3 ∷ 3 ∷ 2 ∷ [])
+    -- a pick-up leaves as many, a steal of two pieces makes one more
+    ∷ row (lines-inside easy-seven (two-withdrawn ++ (ticks [] ∷ grants 2 ∷ [])) (0 ∷ 0 ∷ [])) (2 ∷ 2 ∷ 2 ∷ [])
+    ∷ row (lines-inside thirteen (single-rounds 3 ++ (grants 2 ∷ [])) (0 ∷ 0 ∷ [])) (1 ∷ 1 ∷ 2 ∷ [])
+    -- pieces that last, with a begun one: two lines, and two orphans
+    ∷ row (lines-after (lasting-diamond 1) half-of-five ++ lines-after (lasting-diamond 1) (half-of-five ++ (grants 0 ∷ [])))
+    (2 ∷ 2 ∷ 2 ∷ 2 ∷ 2 ∷ 2 ∷ 2 ∷ 2 ∷ [])
+    -- form 3, of 15 tenths
+    ∷ row (lines-after (gentle-bytes 15 1 1 seven-tasks) (single-rounds 2 ++ (grants 2 ∷ ticks (0 ∷ 0 ∷ []) ∷ []))) (2 ∷ 2 ∷ 2 ∷ 2 ∷ [])
+    -- an offer that is not opened grants nothing, and an opening what it opens; a refused call grants nothing
+    ∷ row (flatMap (λ more. lines-after (seven 1) (grants 1 ∷ ticks (0 ∷ []) ∷ offers 2 ∷ more))
+    ([] ∷ (opens 1 ∷ []) ∷ (opens 2 ∷ []) ∷ (opens 3 ∷ []) ∷ (withdraws ∷ []) ∷ []))
+    (1 ∷ 1 ∷ 1 ∷ 2 ∷ 1 ∷ 1 ∷ 1 ∷ 2 ∷ 1 ∷ 2 ∷ 2 ∷ 2 ∷ 1 ∷ 1 ∷ 1 ∷ 2 ∷ 1 ∷ 1 ∷ 1 ∷ 2 ∷ [])
+    ∷ row (flatMap (lines-after (seven 1)) ((grants 2 ∷ []) ∷ (grants 1 ∷ grants 9 ∷ []) ∷ [])) (0 ∷ 0 ∷ 0 ∷ 0 ∷ 1 ∷ 1 ∷ 1 ∷ 1 ∷ [])
+    -- the round in which a job finishes never closes, and its count stays granted
+    ∷ row (lines-after (one-task 2) (grants 1 ∷ ticks (0 ∷ []) ∷ [])) (0 ∷ 1 ∷ 1 ∷ 0 ∷ [])
     ∷ []
 
 -- ticks
@@ -830,36 +885,37 @@ program-rows =
 
 our-rows : List Row
 our-rows =
-    plan-rows ++ form-rows ++ gentle-rows ++ lasting-rows ++ grant-rows ++ offer-rows ++ withdrawal-rows ++ tick-rows ++ steal-rows ++
-    last-tick-rows ++ quantum-rows ++ log-rows ++ program-rows
+    plan-rows ++ form-rows ++ gentle-rows ++ lasting-rows ++ grant-rows ++ offer-rows ++ withdrawal-rows ++ line-rows ++ tick-rows ++
+    steal-rows ++ last-tick-rows ++ quantum-rows ++ log-rows ++ program-rows
 
 pub rows : List Row
 rows = document-rows ++ our-rows
 
 -- every row holds
-pub table : failing 0 rows ≡ []
+unfoldable pub table : failing 0 rows ≡ []
 unfolding same row-holds failing task lasting form-bytes gentle-bytes plan-bytes diamond one-task seven easy-seven wide-seven ten thirteen
     four-lines link chain refusal after-calls quantum-kept shown-from shown answered listed placed labelled desire-after document-rows
     seven-tasks growth-number header-fields fields-of task-fields fresh-with call-number grant-number note-shown state-kept kept-from
-    offer-kept example-1-offered quantum-shown current-shown history-shown shown-twice half-of-five three-thieves two-withdrawn four-at-work
-    two-grants three-at-work then-three counted sums statuses-from statuses lasting-diamond one-lasting after-first one-works one-logged
-    ticks-left gentle-diamond gentle-next last-powers from-the-top gentle-chain single-rounds powers-shown plan-rows form-rows gentle-rows
-    lasting-rows grant-rows offer-rows withdrawal-rows tick-rows steal-rows last-tick-rows quantum-rows log-rows program-rows our-rows rows
-    below every keep member count-set all-set occurrences zeros first-no flatMap Plan.predecessors Plan.number Plan.header Plan.forms
-    Plan.is-form Plan.form-with Plan.form-of Plan.growth-field Plan.utilization-field Plan.quantum-length-field Plan.task-bits
-    Plan.duration-field Plan.successor-fields Plan.plan-of Plan.fields-ok Plan.two-differ Plan.targets-ok Plan.task-questions
-    Plan.all-preceded Plan.one-exit Plan.header-questions Plan.graph-questions Plan.plan-questions Plan.plan-answer Machine.finished
-    Machine.fresh Machine.grant-questions Machine.kept-deques Machine.withdrawn-deques Machine.first-task-placed Machine.grant
-    Machine.withdraw-questions Machine.open-questions Machine.open-offer Machine.tick-questions Machine.cycle-of Machine.ready
-    Machine.released Machine.stolen-count Machine.left-by-steal Machine.taken-by-steal Machine.worked-deque Machine.work-cycle
-    Machine.mug-cycle Machine.successful-steal Machine.failed-steal Machine.cycle Machine.turn-of Machine.turn Machine.cycles
-    Machine.cycles-made Machine.ticked Machine.efficient Machine.satisfied Machine.next-wish Machine.closes Machine.closed Machine.tick
-    Machine.top-desires Machine.whole-parts Machine.call-answer Machine.step Machine.status History.beginning History.history-grant
-    History.history-tick History.history-open History.history-step History.run-from History.run History.tasks-in WholeTicks.accepted-calls
-    WholeTicks.granted-ticks Log.entries-up-to Log.entries Log.run-calls Log.run-log Log.log-answer Label.lines-from Label.lines
-    Label.label-answer Label.label Counters.decimal-up-to Counters.decimal Counters.spaced Counters.counters Counters.counters-line
-    Counters.counters-answer Counters.buffer-after Digits.first-above Digits.digit-count Program.plan-length Program.plan-part
-    Program.log-part Program.input-questions Program.refused-line Program.log-output Program.program
+    offer-kept example-1-offered quantum-shown current-shown history-shown shown-twice half-of-five three-thieves two-at-work two-withdrawn
+    four-at-work two-grants three-at-work then-three counted sums statuses-from statuses one-in-vain lines-after lines-inside
+    lasting-diamond one-lasting after-first one-works one-logged ticks-left gentle-diamond gentle-next last-powers from-the-top gentle-chain
+    single-rounds powers-shown plan-rows form-rows gentle-rows lasting-rows grant-rows offer-rows withdrawal-rows line-rows tick-rows
+    steal-rows last-tick-rows quantum-rows log-rows program-rows our-rows rows below every keep member count-set all-set occurrences total
+    zeros first-no flatMap Plan.predecessors Plan.number Plan.header Plan.forms Plan.is-form Plan.form-with Plan.form-of Plan.growth-field
+    Plan.utilization-field Plan.quantum-length-field Plan.task-bits Plan.duration-field Plan.successor-fields Plan.plan-of Plan.fields-ok
+    Plan.two-differ Plan.targets-ok Plan.task-questions Plan.all-preceded Plan.one-exit Plan.header-questions Plan.graph-questions
+    Plan.plan-questions Plan.plan-answer Machine.finished Machine.fresh Machine.grant-questions Machine.kept-deques Machine.withdrawn-deques
+    Machine.first-task-placed Machine.grant Machine.withdraw-questions Machine.open-questions Machine.open-offer Machine.tick-questions
+    Machine.cycle-of Machine.ready Machine.released Machine.stolen-count Machine.left-by-steal Machine.taken-by-steal Machine.worked-deque
+    Machine.work-cycle Machine.mug-cycle Machine.successful-steal Machine.failed-steal Machine.cycle Machine.turn-of Machine.turn
+    Machine.cycles Machine.cycles-made Machine.ticked Machine.efficient Machine.satisfied Machine.next-wish Machine.closes Machine.closed
+    Machine.tick Machine.top-desires Machine.whole-parts Machine.call-answer Machine.step Machine.status History.beginning
+    History.history-grant History.history-tick History.history-open History.history-step History.run-from History.run History.tasks-in
+    WholeTicks.accepted-calls WholeTicks.granted-ticks Lines.busy Lines.largest-closed Lines.largest-granted Lines.largest-count
+    Log.entries-up-to Log.entries Log.run-calls Log.run-log Log.log-answer Label.lines-from Label.lines Label.label-answer Label.label
+    Counters.decimal-up-to Counters.decimal Counters.spaced Counters.counters Counters.counters-line Counters.counters-answer
+    Counters.buffer-after Digits.first-above Digits.digit-count Program.plan-length Program.plan-part Program.log-part
+    Program.input-questions Program.refused-line Program.log-output Program.program
 table = refl
 
 -- examples 3 and 4 by themselves, for a program that meets them from contracts alone: Plan A is accepted, a first grant of 2 is refused by

@@ -3,8 +3,8 @@
 -- Plan, Machine, History: the method. Log, Label, Counters, Program: what stands on it. Digits: how long the counters line is.
 -- Statements: what is promised of every list of calls. Thefts: what is promised of a steal (request U1). Muggings: in which order withdrawn
 -- deques are mugged (request U8). WholeTicks: what a job's ticks add up to (request U6). Lasting: the ticks of a task, and where a begun
--- one stands (request U9). Offers: what an offer, an opening and a withdrawal do to a history (request U5). Examples: the worked examples
--- as one table, which the checker computes.
+-- one stands (request U9). Offers: what an offer, an opening and a withdrawal do to a history (request U5). Lines: how many deques there
+-- can be (request U12). Examples: the worked examples as one table, which the checker computes.
 pub mod Tests
 pub mod Questions
 pub mod Plan
@@ -15,6 +15,7 @@ pub mod Thefts
 pub mod Muggings
 pub mod WholeTicks
 pub mod Lasting
+pub mod Lines
 pub mod Log
 pub mod Offers
 pub mod Label

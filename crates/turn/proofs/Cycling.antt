@@ -8,9 +8,8 @@ use borrow.Author.Needs.{needs}
 use Rattle.model.specs.Plan.{Graph}
 use Rattle.model.specs.Machine.{Execution, deque-of, cycle}
 use Rattle.model.specs.Statements.{SoundGraph}
-use Rattle.laws.proofs.Cycles.{works}
+use Rattle.laws.proofs.Cycles.{works, cycle-allotment}
 use Rattle.laws.proofs.Placement.{cycle-placed}
-use Rattle.laws.proofs.Bounds.{cycle-bounded}
 use Rattle.memory.specs.Parts.{Parts, with-ends, SamePlan}
 use Rattle.memory.specs.Words.{Numbers}
 use Rattle.memory.specs.Graphs.{graph}
@@ -27,7 +26,7 @@ lawful-cycle : (its-graph : Graph) (e : Execution) (w choice : ℕ) → SoundGra
 lawful-cycle its-graph e w choice sound l here =
     record {
       placed = cycle-placed sound (l .placed) w choice here;
-      bounded = cycle-bounded its-graph (l .bounded) w choice here;
+      few-workers = rw (cycle-allotment its-graph w choice e) (l .few-workers);
     }
 
 -- ---- sound parts and numbers, and a worker of them
@@ -43,7 +42,7 @@ module _ {p : Parts} {m : Numbers} {w choice : ℕ} (turn : ChoiceTurn p m w cho
   sound = turn .turn .sound
 
   pub few-workers : m .workers ≤ 64
-  few-workers = omega (arith, sound .lawful .bounded .workers, workers-shown (p .next) (p .ends) (m .workers))
+  few-workers = omega (arith, sound .lawful .few-workers, workers-shown (p .next) (p .ends) (m .workers))
 
   pub worker-place : w < 64
   worker-place = omega (arith, few-workers, turn .turn .worker)

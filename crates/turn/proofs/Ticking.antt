@@ -113,7 +113,7 @@ module _ {memory words choices : List ℕ} (tick : TickTurn memory words choices
   pub few-choices : length choices ≤ 64
   few-choices =
       let shown = workers-shown (parts memory .next) (parts memory .ends) (numbers-in words .workers) in
-      omega (arith, tick .one-each, tick .sound .lawful .bounded .workers)
+      omega (arith, tick .one-each, tick .sound .lawful .few-workers)
 
   module _ {memory′ words′ : List ℕ} {t : Tally} {i : ℕ} (u : Underway memory words choices memory′ words′ t i) where
     abbrev m′ : Numbers

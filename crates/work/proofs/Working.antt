@@ -103,7 +103,7 @@ module _ {p : Parts} {m : Numbers} {w : ℕ} (turn : WorkTurn p m w) where
   worked = worked-in p m
 
   few-workers : m .workers ≤ 64
-  few-workers = omega (arith, sound .lawful .bounded .workers, workers-shown next ends (m .workers))
+  few-workers = omega (arith, sound .lawful .few-workers, workers-shown next ends (m .workers))
 
   pub worker-place : w < 64
   worker-place = omega (arith, few-workers, turn .turn .worker)
