@@ -1,10 +1,11 @@
 -- How many deques and how many tasks there are: what a worker's cycle makes of the number of deques in use (`cycle-lines`); where that
 -- number is at most some number of workers or more, it stays so, because a steal happens only when no muggable deque waits
--- (`cycles-bounded`); and all deques of a placed execution together hold at most N tasks.
+-- (`cycles-bounded`); and all deques of a placed execution together hold tasks of the plan,
+-- each at most once, and so at most N (`tasks-held`).
 -- Assumes nothing.
 use mathlib.Core.Path.{_≡_, refl, ap, _∙_}
 use mathlib.Core.Bool.{Bool, true, false, cond}
-use mathlib.Core.List.{List, [], _∷_, _++_, map, tail, List·Memᴰ, List·Memᴰ·head, List·Memᴰ·tail}
+use mathlib.Core.List.{List, [], _∷_, _++_, flatMap, tail, List·Memᴰ, List·Memᴰ·head, List·Memᴰ·tail}
 use Prim.Native.Nat.{ℕ, zero, suc, _+_, _≤_, _<_}
 use native.Mathlib.Nat.{not-suc-le-zero}
 use native.Mathlib.Omega.{arith}
@@ -12,14 +13,14 @@ use lib.Dec.{eqb}
 use lib.ListN.{length, getD, set, length-set, length-append}
 use lib.Seq.{getD-set-same, getD-set-other}
 use borrow.Author.Tests.{eqb-false}
-use Rattle.model.specs.Tests.{occurrences, total}
+use Rattle.model.specs.Tests.{occurrences}
 use Rattle.model.specs.Plan.{Graph, tasks}
 use Rattle.model.specs.Machine.{Execution, deque-of, one-tick-less, worked-deque, left-by-steal, taken-by-steal, work-cycle, mug-cycle}
 use Rattle.model.specs.Machine.{successful-steal, failed-steal, cycle-of, cycle, cycles}
-use Rattle.model.specs.Lines.{LinesAfter, tasks-in-deques}
+use Rattle.model.specs.Lines.{LinesAfter, tasks-standing, TasksHeld}
 use Rattle.laws.specs.Invariants.{in-deques, Placed, Bounded}
 use Rattle.laws.proofs.Deques.{one-if-filled, one-at-most, filled-is-one, empty-or-filled, busy-set, busy-at-most}
-use Rattle.laws.proofs.Deques.{occurrences-append, occurs}
+use Rattle.laws.proofs.Deques.{occurrences-append, occurs, in-deques-append}
 use Rattle.laws.proofs.Stealing.{left-filled, half-taken, apart, victim-within}
 use Rattle.laws.proofs.Cycles.{cycle-cases, cycles-keep}
 use Rattle.laws.proofs.Placement.{stands, standing-once}
@@ -149,51 +150,38 @@ counted n (x ∷ xs) h =
       counted n xs (λ y m. h y (List·Memᴰ·tail m)),
     )
 
--- the tasks of some deques in one list
-unfoldable pub tasks-of : List (List ℕ) → List ℕ
-tasks-of [] = []
-tasks-of (d ∷ ds) = d ++ tasks-of ds
+occurrences-in : (t : ℕ) (ds : List (List ℕ)) → occurrences t (flatMap (λ d. d) ds) ≡ in-deques t ds
+unfolding occurrences in-deques flatMap
+occurrences-in t [] = refl
+occurrences-in t (d ∷ ds) =
+    occurrences-append t d (flatMap (λ d. d) ds) ∙ ap (λ (n : ℕ). occurrences t d + n) (occurrences-in t ds)
 
-pub occurrences-tasks-of : (t : ℕ) (ds : List (List ℕ)) → occurrences t (tasks-of ds) ≡ in-deques t ds
-unfolding occurrences in-deques tasks-of
-occurrences-tasks-of t [] = refl
-occurrences-tasks-of t (d ∷ ds) = occurrences-append t d (tasks-of ds) ∙ ap (λ (n : ℕ). occurrences t d + n) (occurrences-tasks-of t ds)
-
-pub deque-within : (ds : List (List ℕ)) (w : ℕ) → length (getD ds w []) ≤ length (tasks-of ds)
-unfolding tasks-of
-deque-within [] w = omega arith
-deque-within (d ∷ ds) zero = omega (arith, length-append d (tasks-of ds))
-deque-within (d ∷ ds) (suc w) = omega (arith, length-append d (tasks-of ds), deque-within ds w)
-
-lengths-of : (ds : List (List ℕ)) → total (map length ds) ≡ length (tasks-of ds)
-unfolding total tasks-of
-lengths-of [] = refl
-lengths-of (d ∷ ds) = omega (arith, length-append d (tasks-of ds), lengths-of ds)
+-- one of some deques, and others behind them
+deque-within : (ds others : List (List ℕ)) (w : ℕ) → length (getD ds w []) ≤ length (flatMap (λ d. d) (ds ++ others))
+unfolding flatMap
+deque-within [] others w = omega arith
+deque-within (d ∷ ds) others zero = omega (arith, length-append d (flatMap (λ d. d) (ds ++ others)))
+deque-within (d ∷ ds) others (suc w) = omega (arith, length-append d (flatMap (λ d. d) (ds ++ others)), deque-within ds others w)
 
 module _ {graph : Graph} {e : Execution} (placed : Placed graph e) where
-  -- all deques together hold at most N tasks
-  pub tasks-standing : length (tasks-of (e .deques)) + length (tasks-of (e .muggable)) ≤ tasks graph
-  tasks-standing =
-      let all : List ℕ = tasks-of (e .deques) ++ tasks-of (e .muggable) in
-      omega (
-        arith,
-        length-append (tasks-of (e .deques)) (tasks-of (e .muggable)),
-        counted (tasks graph) all (λ x m. stands placed x (omega (arith, times x, occurs x all m)) .of-plan),
-        sum-of-ones (tasks graph) (λ t. occurrences t all) (λ t. omega (arith, times t, standing-once placed t)),
-      )
-    where
-      times : (t : ℕ) → occurrences t (tasks-of (e .deques) ++ tasks-of (e .muggable)) ≡ in-deques t (e .deques) + in-deques t (e .muggable)
-      times t =
-          omega (
-            arith,
-            occurrences-append t (tasks-of (e .deques)) (tasks-of (e .muggable)),
-            occurrences-tasks-of t (e .deques),
-            occurrences-tasks-of t (e .muggable),
-          )
+  times : (t : ℕ) → occurrences t (tasks-standing e) ≡ in-deques t (e .deques) + in-deques t (e .muggable)
+  times t = occurrences-in t (e .deques ++ e .muggable) ∙ in-deques-append t (e .deques) (e .muggable)
 
-  -- .. by the deques' lengths
-  pub tasks-at-most : tasks-in-deques e ≤ tasks graph
-  tasks-at-most = omega (arith, tasks-standing, lengths-of (e .deques), lengths-of (e .muggable))
+  pub tasks-held : TasksHeld graph e
+  tasks-held =
+      let once : ((t : ℕ) → occurrences t (tasks-standing e) ≤ 1) = λ t. omega (arith, times t, standing-once placed t) in
+      let of-plan : ((t : ℕ) → List·Memᴰ t (tasks-standing e) → t < tasks graph) =
+      λ t m. stands placed t (omega (arith, times t, occurs t (tasks-standing e) m)) .of-plan in
+      record {
+        of-plan = of-plan;
+        once = once;
+        at-most =
+            omega (
+              arith,
+              counted (tasks graph) (tasks-standing e) of-plan,
+              sum-of-ones (tasks graph) (λ t. occurrences t (tasks-standing e)) once,
+            );
+      }
 
   pub worker-length : (w : ℕ) → length (deque-of e w) ≤ tasks graph
-  worker-length w = omega (arith, deque-within (e .deques) w, tasks-standing)
+  worker-length w = omega (arith, deque-within (e .deques) (e .muggable) w, tasks-held .at-most)

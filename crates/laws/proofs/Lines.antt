@@ -1,29 +1,30 @@
 -- Request U12: after any list of calls, and inside a tick after every worker's cycle, the deques in use number at most the largest count
--- granted so far, which is at most 64 and is that of the accepted grants and openings; and in them are at most N tasks (`lines-bounded`).
+-- granted so far, which is at most 64 and is that of the accepted grants and openings; and in them each task stands at most once
+-- (`lines-bounded`).
 -- A cycle keeps the limit (Bounds), and so does a grant, which raises the largest count to its own (Grants).
 -- Assumes nothing.
 use mathlib.Core.Path.{_≡_, refl, ap, _∙_}
 use mathlib.Core.Bool.{Bool, true, false}
-use mathlib.Core.List.{List, [], _∷_, _++_}
+use mathlib.Core.List.{List, [], _∷_, _++_, flatMap, List·Memᴰ·not-nil}
 use Prim.Native.Nat.{ℕ, zero, suc, _+_, _≤_, max}
 use native.Mathlib.Nat.{zero-add}
 use native.Mathlib.Omega.{arith}
 use lib.ListN.{length, take, length-take}
 use lib.Seq.{take-all}
-use Rattle.model.specs.Tests.{total}
+use Rattle.model.specs.Tests.{occurrences}
 use Rattle.model.specs.Questions.{Answer, accepted, refused, by-answer}
-use Rattle.model.specs.Plan.{Plan, tasks}
+use Rattle.model.specs.Plan.{Plan}
 use Rattle.model.specs.Machine.{Execution, State, allotment, idle, Note, no-offer, offered, fresh, grant, cycles, ticked, closed}
 use Rattle.model.specs.Machine.{most-workers, Call, grants, ticks, offers, opens, withdraws, call-answer, step}
 use Rattle.model.specs.History.{ClosedQuantum, CurrentQuantum, none, begun-with, History, beginning, history-grant, history-tick, verdict}
 use Rattle.model.specs.History.{history-open, history-moved, history-step, run, run-from}
 use Rattle.model.specs.Statements.{SoundPlan}
 use Rattle.model.specs.WholeTicks.{accepted-calls, after-workers}
-use Rattle.model.specs.Lines.{busy, tasks-in-deques, granted-in, largest-closed, largest-granted, largest-count, TurnByTurn, LinesBounded}
+use Rattle.model.specs.Lines.{busy, TasksHeld, granted-in, largest-closed, largest-granted, largest-count, TurnByTurn, LinesBounded}
 use Rattle.laws.specs.Invariants.{Bounded}
 use Rattle.laws.specs.Reached.{Unstarted, Arranged}
 use Rattle.laws.proofs.Placement.{cycles-placed}
-use Rattle.laws.proofs.Bounds.{bounded-more, cycle-lines, cycles-bounded, tasks-at-most}
+use Rattle.laws.proofs.Bounds.{bounded-more, cycle-lines, cycles-bounded, tasks-held}
 use Rattle.laws.proofs.Grants.{grant-bounded, first-grant-bounded, no-grant-unstarted}
 use Rattle.laws.proofs.Grants.{grant-lines, grant-of-0-lines, first-grant-lines}
 use Rattle.laws.proofs.Accepted.{grant-accepted, tick-accepted, open-accepted, not-idle, tick-execution}
@@ -200,29 +201,31 @@ module _ (plan : Plan) (s : State) (choices : List ℕ) (answer : call-answer (t
 
 -- ---- the tasks
 
-unstarted-tasks : {plan : Plan} {e : Execution} (most : ℕ) → Unstarted plan e → tasks-in-deques e ≤ most
-unfolding total
-unstarted-tasks most u = rw (u .no-deques, u .no-muggable) (omega arith)
+unstarted-tasks : {plan : Plan} {e : Execution} → Unstarted plan e → TasksHeld (plan .graph) e
+unfolding flatMap occurrences
+unstarted-tasks u =
+    rw (u .no-deques, u .no-muggable)
+    (record { of-plan = λ t m. absurd (List·Memᴰ·not-nil m); once = λ t. omega arith; at-most = omega arith })
 
 module _ {plan : Plan} (sound : SoundPlan plan) (s : State) (a : Arranged plan s) where
-  arranged-tasks : tasks-in-deques (s .execution) ≤ tasks (plan .graph)
+  arranged-tasks : TasksHeld (plan .graph) (s .execution)
   arranged-tasks = go (s .started) refl
     where
-      go : (b : Bool) → s .started ≡ b → tasks-in-deques (s .execution) ≤ tasks (plan .graph)
-      go true on = tasks-at-most (a .after on)
-      go false off = unstarted-tasks (tasks (plan .graph)) (a .before off)
+      go : (b : Bool) → s .started ≡ b → TasksHeld (plan .graph) (s .execution)
+      go true on = tasks-held (a .after on)
+      go false off = unstarted-tasks (a .before off)
 
   tasks-inside : (choices : List ℕ) → call-answer (ticks choices) s ≡ accepted → (w : ℕ) →
-      tasks-in-deques (after-workers plan s choices w) ≤ tasks (plan .graph)
+      TasksHeld (plan .graph) (after-workers plan s choices w)
   tasks-inside choices answer w = go (s .started) refl
     where
-      go : (b : Bool) → s .started ≡ b → tasks-in-deques (after-workers plan s choices w) ≤ tasks (plan .graph)
-      go true on = tasks-at-most (cycles-placed (sound .graph) (a .after on) 0 (take w choices) (first-ones plan s choices answer w))
+      go : (b : Bool) → s .started ≡ b → TasksHeld (plan .graph) (after-workers plan s choices w)
+      go true on = tasks-held (cycles-placed (sound .graph) (a .after on) 0 (take w choices) (first-ones plan s choices answer w))
       go false off =
           let u = a .before off in
           let none : length (s .execution .deques) ≡ 0 = ap length (u .no-deques) in
           let nobody = unstarted-cycles (s .execution) u (take w choices) (omega (arith, first-ones plan s choices answer w)) in
-          rw (nobody .0) (unstarted-tasks (tasks (plan .graph)) u)
+          rw (nobody .0) (unstarted-tasks u)
 
 -- ---- a list of calls
 

@@ -161,8 +161,8 @@ module _ {plan : Plan} (sound : SoundPlan plan) (calls : List Call) where
   whole-ticks = WholeTicks.whole-ticks plan calls
 
   -- "after every call, and after every worker's cycle inside a tick, non-empty lines and orphans together number at most the largest count
-  -- granted so far. So 64 always suffices": and in them stand at most the plan's tasks; a cycle or a grant changes the number by one or not
-  -- at all, as said there
+  -- granted so far. So 64 always suffices": and in them stand tasks of the plan, each at most once; a cycle or a grant changes the number
+  -- by one or not at all, as said there
   pub lines-bounded : LinesBounded plan calls
   lines-bounded = Lines.lines-bounded sound calls
 

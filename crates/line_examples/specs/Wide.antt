@@ -9,7 +9,7 @@ use lib.ListN.{length, replicate}
 use Rattle.model.specs.Tests.{below}
 use Rattle.model.specs.Questions.{accepted}
 use Rattle.model.specs.Plan.{Plan, plan-of, plan-answer}
-use Rattle.model.specs.Machine.{Call, grants, ticks, call-answer}
+use Rattle.model.specs.Machine.{Call, grants, ticks}
 use Rattle.model.specs.History.{History, run}
 use Rattle.model.specs.WholeTicks.{after-workers}
 use Rattle.model.specs.Lines.{deques-in-use, largest-granted}

@@ -5,7 +5,7 @@ use mathlib.Core.List.{List, [], _∷_, _++_, map, flatMap}
 use Prim.Native.Nat.{ℕ, suc, _+_, _*_, _-_, _/_, _%_, _^_}
 use lib.Dec.{leb, ltb, eqb}
 use lib.ListN.{length, getD, take, drop, replicate}
-use Rattle.model.specs.Tests.{below, every, keep, member, count-set, all-set, occurrences, total, zeros}
+use Rattle.model.specs.Tests.{below, every, keep, member, count-set, all-set, occurrences, zeros}
 use Rattle.model.specs.Questions.{accepted, refused, answer-number, first-no}
 use Rattle.model.specs.Plan
 use Rattle.model.specs.Plan.{Growth, by-factor, by-tenths, Plan, plan-of, plan-answer, form-field, growth-field, utilization-field}
@@ -21,7 +21,7 @@ use Rattle.model.specs.History.{ClosedQuantum, CurrentQuantum, none, beg
 use Rattle.model.specs.WholeTicks
 use Rattle.model.specs.WholeTicks.{all-counted, accepted-calls, worker-ticks, after-workers}
 use Rattle.model.specs.Lines
-use Rattle.model.specs.Lines.{deques-in-use, tasks-in-deques, largest-granted, largest-count}
+use Rattle.model.specs.Lines.{deques-in-use, tasks-standing, largest-granted, largest-count}
 use Rattle.model.specs.Log
 use Rattle.model.specs.Log.{run-log, run-calls, log-answer}
 use Rattle.model.specs.Label
@@ -355,7 +355,7 @@ lines-after bytes calls =
     let plan = plan-of bytes in
     let h = run plan calls in
     deques-in-use (h .state .execution) ∷ largest-granted h ∷ largest-count (accepted-calls plan (fresh plan) calls)
-    ∷ tasks-in-deques (h .state .execution) ∷ []
+    ∷ length (tasks-standing (h .state .execution)) ∷ []
 
 -- the deques in use inside a tick with these choices: before the first worker's cycle, and after each one's
 lines-inside : List ℕ → List Call → List ℕ → List ℕ
@@ -900,8 +900,8 @@ unfolding same row-holds failing task lasting form-bytes gentle-bytes plan-bytes
     four-at-work two-grants three-at-work then-three counted sums statuses-from statuses one-in-vain lines-after lines-inside
     lasting-diamond one-lasting after-first one-works one-logged ticks-left gentle-diamond gentle-next last-powers from-the-top gentle-chain
     single-rounds powers-shown plan-rows form-rows gentle-rows lasting-rows grant-rows offer-rows withdrawal-rows line-rows tick-rows
-    steal-rows last-tick-rows quantum-rows log-rows program-rows our-rows rows below every keep member count-set all-set occurrences total
-    zeros first-no flatMap Plan.predecessors Plan.number Plan.header Plan.forms Plan.is-form Plan.form-with Plan.form-of Plan.growth-field
+    steal-rows last-tick-rows quantum-rows log-rows program-rows our-rows rows below every keep member count-set all-set occurrences zeros
+    first-no flatMap Plan.predecessors Plan.number Plan.header Plan.forms Plan.is-form Plan.form-with Plan.form-of Plan.growth-field
     Plan.utilization-field Plan.quantum-length-field Plan.task-bits Plan.duration-field Plan.successor-fields Plan.plan-of Plan.fields-ok
     Plan.two-differ Plan.targets-ok Plan.task-questions Plan.all-preceded Plan.one-exit Plan.header-questions Plan.graph-questions
     Plan.plan-questions Plan.plan-answer Machine.finished Machine.fresh Machine.grant-questions Machine.kept-deques Machine.withdrawn-deques

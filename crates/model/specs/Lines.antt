@@ -3,10 +3,10 @@
 -- and the pieces that last." It is proved in the crate `laws`, for plans of every form.
 use mathlib.Core.Path.{_≡_}
 use mathlib.Core.Bool.{true, false, cond}
-use mathlib.Core.List.{List, [], _∷_, map}
+use mathlib.Core.List.{List, [], _∷_, _++_, flatMap, List·Memᴰ}
 use Prim.Native.Nat.{ℕ, suc, _+_, _≤_, _<_, max}
 use lib.ListN.{length, getD}
-use Rattle.model.specs.Tests.{is-empty, total}
+use Rattle.model.specs.Tests.{is-empty, occurrences}
 use Rattle.model.specs.Questions.{accepted}
 use Rattle.model.specs.Plan.{Plan, Graph, tasks}
 use Rattle.model.specs.Machine.{Execution, State, allotment, deque-of, fresh, grant, cycle, turn, call-answer, step, most-workers}
@@ -26,9 +26,15 @@ busy (d ∷ ds) = cond (is-empty d) 0 1 + busy ds
 abbrev pub deques-in-use : Execution → ℕ
 deques-in-use e = busy (e .deques) + length (e .muggable)
 
--- how many tasks stand in them, all deques together
-abbrev pub tasks-in-deques : Execution → ℕ
-tasks-in-deques e = total (map length (e .deques)) + total (map length (e .muggable))
+-- the tasks in them, deque by deque
+abbrev pub tasks-standing : Execution → List ℕ
+tasks-standing e = flatMap (λ d. d) (e .deques ++ e .muggable)
+
+-- what is to be held of them: tasks of the plan, each at most once, and so at most N
+pub record TasksHeld (graph : Graph) (e : Execution) : Type 0 where
+  pub of-plan : (t : ℕ) → List·Memᴰ t (tasks-standing e) → t < tasks graph
+  pub once : (t : ℕ) → occurrences t (tasks-standing e) ≤ 1
+  pub at-most : length (tasks-standing e) ≤ tasks graph
 
 -- ---- the largest count granted so far
 
@@ -105,9 +111,9 @@ pub record LinesBounded (plan : Plan) (calls : List Call) : Type 0 where
   pub present-included : allotment (run plan calls .state) ≤ largest-granted (run plan calls)
   -- "So 64 always suffices."
   pub at-most-64 : largest-granted (run plan calls) ≤ most-workers
-  -- and in these deques there are never more tasks than the plan has
-  pub tasks-after-calls : tasks-in-deques (run plan calls .state .execution) ≤ tasks (plan .graph)
+  -- and what stands in these deques
+  pub tasks-after-calls : TasksHeld (plan .graph) (run plan calls .state .execution)
   pub tasks-after-cycles : (choices : List ℕ) → call-answer (ticks choices) (run plan calls .state) ≡ accepted → (w : ℕ) →
-      tasks-in-deques (after-workers plan (run plan calls .state) choices w) ≤ tasks (plan .graph)
+      TasksHeld (plan .graph) (after-workers plan (run plan calls .state) choices w)
   -- how each move changes the number
   pub moves : LinesMove (plan .graph)
