@@ -1273,6 +1273,60 @@ static void test_most_workers(unsigned ticks)
     release_job(job);
 }
 
+/* a quantum of one tick with as many workers as the job wants, of which each new one robs the worker half their number below it */
+static void rob_by_half(jirvaldo_job *job, unsigned workers)
+{
+    uint8_t choices[JIRVALDO_WORKERS_MAX];
+    unsigned i;
+    for (i = 0; i < workers; i++) choices[i] = (uint8_t)(i < workers / 2 ? i : i - workers / 2);
+    CHECK(wanted(job) == workers);
+    CHECK(jirvaldo_grant(job, workers) == 0 && tick_bytes(job, choices, workers) == 0);
+}
+
+/* a grant of 0 withdraws all workers, and in a later tick as many come back: each finds a deque to mug, which had one before */
+static void withdraw_and_mug(jirvaldo_job *job, unsigned workers, uint64_t *seed)
+{
+    jirvaldo_numbers before = jirvaldo_counters(job, 0), after;
+    one_tick(job, 0, seed);
+    CHECK(jirvaldo_status(job) == JIRVALDO_STATUS_HELD);
+    one_tick(job, workers, seed);
+    after = jirvaldo_counters(job, 0);
+    CHECK(after.mug == before.mug + workers && after.work == before.work && after.steal == before.steal);
+}
+
+/* 1, 2, 4 .. 64 workers come to have a deque each, every new one by a theft, and all are withdrawn at once: the ring of muggable deques is
+ * full. Where some were mugged before, its oldest place is not its first. The highest worker's deque is mugged first, so that after two
+ * such turns each worker has its own again: the job goes on as a copy does that kept them, and works each task once. */
+static void test_full_ring(unsigned mugged_before)
+{
+    plan_bytes plan;
+    jirvaldo_job *job, *kept;
+    jirvaldo_numbers n, m;
+    uint64_t seed = 1, go_on = 2, go_on_too = 2;
+    unsigned workers;
+    fork_join(&plan, 2, 1, 1, 128);
+    job = accepted(&plan);
+    for (workers = 1; workers <= JIRVALDO_DEQUES_MAX; workers *= 2) {
+        rob_by_half(job, workers);
+        if (workers == mugged_before) withdraw_and_mug(job, workers, &seed);
+    }
+    n = jirvaldo_counters(job, 0);
+    CHECK(n.work == 64 && n.successes == 63 && n.steal == 63 && n.mug == mugged_before);
+    kept = copy_of(job);
+    withdraw_and_mug(job, JIRVALDO_DEQUES_MAX, &seed);
+    withdraw_and_mug(job, JIRVALDO_DEQUES_MAX, &seed);
+    do {
+        one_tick(job, wanted(job), &go_on);
+        one_tick(kept, wanted(kept), &go_on_too);
+        n = jirvaldo_counters(job, 0);
+        m = jirvaldo_counters(kept, 0);
+        CHECK(n.worked == m.worked && n.desire == m.desire && n.steal == m.steal && n.successes == m.successes && n.status == m.status);
+    } while (n.status != JIRVALDO_STATUS_FINISHED);
+    CHECK(n.tasks == 382 && n.worked == 382 && n.work == 382 && n.mug == mugged_before + 2 * JIRVALDO_DEQUES_MAX);
+    release_job(job);
+    release_job(kept);
+}
+
 static void test_whole_jobs(uint64_t *seed)
 {
     plan_bytes plan;
@@ -1374,6 +1428,9 @@ static void test_given(void)
     test_sentences();
     test_most_workers(1);
     test_most_workers(3);
+    test_full_ring(0);
+    test_full_ring(2);
+    test_full_ring(32);
     test_threads();
 }
 

@@ -9,7 +9,9 @@
  * or written.
  *
  * Proved, for all that a caller can hand over: the jirvaldo_core functions in the archive (the contracts of crates/exports
- * and, for a log, of crates/exports_log).
+ * and, for a log, of crates/exports_log). And of every job, for whoever lays out places for its deques: after each call, and inside a tick
+ * after each worker's cycle, its non-empty deques, those of withdrawn workers included, number at most the largest count granted or opened
+ * so far, and so JIRVALDO_DEQUES_MAX; all together they hold each task of the plan at most once.
  * Not proved: the inline functions of this file, which only hand the parts of a job to those, and what is asked of you:
  *   - a job that is handed over holds an accepted plan's job, moved by these functions or not, or a byte copy of one;
  *   - a pointer is valid for its size, and what it points to overlaps neither the job nor what another pointer of the call points to;
@@ -31,6 +33,7 @@ enum {
     JIRVALDO_PLAN_MAX = 4101,   /* bytes of the longest plan, 5 + 4 * 1,024 in form 2 */
     JIRVALDO_TICKS_MAX = 255,   /* ticks that a task can last */
     JIRVALDO_WORKERS_MAX = 64,  /* workers that a job can want, and choices of a tick */
+    JIRVALDO_DEQUES_MAX = 64,   /* non-empty deques of a job at one time, the muggable ones included, also in the middle of a tick */
     JIRVALDO_QUANTA_MAX = 4096, /* quanta that a job may begin, those without a worker too */
     JIRVALDO_LINE_BUFFER = 128, /* bytes that a buffer for the counters line needs */
     JIRVALDO_JOB_SIZE = 10920   /* bytes of a job */

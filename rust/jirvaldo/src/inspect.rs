@@ -71,7 +71,7 @@
 #![forbid(unsafe_code)]
 
 use crate::raw::Memory;
-use crate::{Job, MOST_WORKERS};
+use crate::{Job, MOST_DEQUES, MOST_WORKERS};
 
 /// How the desire of a job grows and falls: the responsiveness (R) of its plan, and the unit. Either way the job has a power, k, which is 0
 /// at first: an inefficient quantum lowers it by one, and an efficient and satisfied one raises it by one as long as the desire is then at
@@ -195,8 +195,41 @@ impl<'a> View<'a> {
 
     /// A muggable deque, from its front to its back; 0 is the oldest, the one that is mugged next.
     pub fn muggable_deque(self, age: usize) -> impl Iterator<Item = u16> + 'a {
-        let ring = (self.word(8) as usize).wrapping_add(age) % MOST_WORKERS;
+        let ring = (self.word(8) as usize).wrapping_add(age) % MOST_DEQUES;
         self.deque_at((age < self.muggable_deques()).then_some(MOST_WORKERS + ring))
+    }
+
+    /// How many deques are in use: the non-empty ones of the granted workers and the muggable ones together. They number at most the
+    /// largest count that was granted or opened so far, and so at most [`MOST_DEQUES`]. The present allotment alone does not bound them:
+    /// where two workers were withdrawn and one came back, it has one deque, and the other still waits.
+    ///
+    /// ```
+    /// use jirvaldo::{inspect::View, Job};
+    ///
+    /// // form 2, R = 2, D = 1, L = 1, N = 4; task 0 is followed by 1 and 2, of two ticks each, and these by 3
+    /// let plan = [0x24, 0x04, 0, 0x04, 3, 0x80, 0x08, 2, 1, 0x40, 0x18, 0, 2, 0x40, 0x18, 0, 2, 0, 0, 0, 1];
+    /// let mut job = Job::accept(&plan)?;
+    /// assert_eq!(View::of(&job).deques_in_use(), 0);
+    /// job.grant(1)?; // task 0 comes to worker 0
+    /// assert_eq!(View::of(&job).deques_in_use(), 1);
+    /// job.tick(&[0])?;
+    /// job.grant(2)?;
+    /// job.tick(&[0, 0])?; // worker 1 takes task 2 from worker 0
+    /// assert_eq!(View::of(&job).deques_in_use(), 2);
+    /// job.grant(0)?; // both deques wait
+    /// assert_eq!(View::of(&job).deques_in_use(), 2);
+    /// job.tick(&[])?;
+    /// job.grant(1)?;
+    /// job.tick(&[0])?; // worker 0 mugs one of them
+    /// let view = View::of(&job);
+    /// assert_eq!((view.allotment(), view.muggable_deques()), (1, 1));
+    /// assert_eq!(view.deques_in_use(), 2);
+    /// # Ok::<(), jirvaldo::Refusal>(())
+    /// ```
+    pub fn deques_in_use(self) -> usize {
+        let workers = 0..self.allotment();
+        let busy = workers.filter(|&worker| self.deque(worker).next().is_some());
+        busy.count() + self.muggable_deques()
     }
 
     /// The deque at a place of `ends`: its front and its size stand side by side. What its links hold past the size is not read.

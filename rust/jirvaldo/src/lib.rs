@@ -125,6 +125,13 @@ pub const LONGEST_TASK: usize = 255;
 /// The most workers that a job ever desires.
 pub const MOST_WORKERS: usize = 64;
 
+/// The most deques that a job has in use at one time: the non-empty ones of its workers and the muggable ones together. To mirror them, lay
+/// out so many places once. After each call, and inside a tick after each worker's cycle, they number at most the largest count that was
+/// granted or opened so far, and that is at most this; all together they hold each task at most once. An offer that is not opened grants
+/// nothing, nor does a refused call. It is proved for every plan and every list of calls, and can't be less: some jobs come to have 64.
+/// [`inspect::View::deques_in_use`] counts them.
+pub const MOST_DEQUES: usize = 64;
+
 /// The most quanta that a job may begin, those without a worker too. A grant or an offer after that is [`Refusal::QuantaSpent`].
 pub const MOST_QUANTA: usize = 4096;
 

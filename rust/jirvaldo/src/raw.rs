@@ -4,10 +4,10 @@
 //! lent to nobody who could write. That is all that the library asks of it. References are never null and a `&mut` overlaps nothing, so
 //! the rest of what the library asks holds of every argument that safe code can pass.
 
-use crate::{MOST_TASKS, MOST_WORKERS};
+use crate::{MOST_DEQUES, MOST_TASKS, MOST_WORKERS};
 
-/// The fronts and sizes of the workers' deques and of as many muggable ones.
-const ENDS: usize = 4 * MOST_WORKERS;
+/// The fronts and sizes of the workers' deques, and of the muggable ones in their ring.
+const ENDS: usize = 2 * (MOST_WORKERS + MOST_DEQUES);
 /// Five numbers of each task, and the deques' ends.
 const PARTS: usize = 5 * MOST_TASKS + ENDS;
 const WORDS: usize = 21;

@@ -3,7 +3,7 @@
 use jirvaldo::inspect::State;
 use jirvaldo::{Job, Refusal, Status};
 
-use super::{hex, job, plan, plan_a, ONE_TASK};
+use super::{hex, job, nested, plan, plan_a, ONE_TASK};
 
 /// A job of Plan A after a log that has no refusal.
 fn after(log: &str) -> Job {
@@ -51,20 +51,13 @@ fn example_7_thief_takes_the_back() {
     assert_eq!(job.counters(0).successes, 1);
 }
 
-/// A job of the plan of `examples/half-a-line.in`, behind its length in two bytes: thirteen tasks, of which worker 0 alone has 5, 6, 4, 2 in
-/// its deque after three, and 7, 8, 6, 4, 2 after four.
-fn nested() -> Job {
-    let input = include_bytes!("../../../../examples/half-a-line.in");
-    job(&input[2..2 + usize::from(input[1])])
-}
-
 #[test]
 fn a_thief_takes_the_back_half_in_its_order() {
     for (log, left, taken) in [
         ("01 81 00 01 81 00 02", vec![5, 6], vec![4, 2]),
         ("01 81 00 01 81 00 01 81 00 02", vec![7, 8, 6], vec![4, 2]),
     ] {
-        let mut job = nested();
+        let mut job = job(nested());
         assert_eq!(job.run_log(&hex(log)).refused_calls, 0);
         assert_eq!(job.tick(&[0, 0]), Ok(()));
         assert_eq!(State::of(&job).deques, [left, taken]);
@@ -74,7 +67,7 @@ fn a_thief_takes_the_back_half_in_its_order() {
 
 #[test]
 fn three_thieves_in_one_tick() {
-    let mut job = nested();
+    let mut job = job(nested());
     let run = job.run_log(&hex("01 81 00 01 81 00 02 82 00 01 04 84 00 00 00 01"));
     assert_eq!(run.refused_calls, 0);
     assert_eq!(
@@ -86,7 +79,7 @@ fn three_thieves_in_one_tick() {
 
 #[test]
 fn of_one_grant_the_highest_workers_deque_is_mugged_first() {
-    let mut job = nested();
+    let mut job = job(nested());
     let run = job.run_log(&hex("01 81 00 01 81 00 02 82 00 00 00"));
     assert_eq!(run.refused_calls, 0);
     assert_eq!(State::of(&job).muggable, [vec![4, 2], vec![5, 6]]);
@@ -98,7 +91,7 @@ fn of_one_grant_the_highest_workers_deque_is_mugged_first() {
 
 #[test]
 fn an_earlier_grants_deques_are_mugged_first() {
-    let mut job = nested();
+    let mut job = job(nested());
     let run = job.run_log(&hex("01 81 00 01 81 00 02 82 00 01 04 84 00 00 00 01 02"));
     assert_eq!(run.refused_calls, 0);
     assert_eq!(State::of(&job).muggable, [vec![2], vec![6]]);

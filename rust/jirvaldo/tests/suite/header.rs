@@ -1,7 +1,8 @@
 //! The C header and the documents' tables say the same.
 
 use jirvaldo::{
-    Job, Refusal, LINE_BUFFER, LONGEST_PLAN, LONGEST_TASK, MOST_QUANTA, MOST_TASKS, MOST_WORKERS,
+    Job, Refusal, LINE_BUFFER, LONGEST_PLAN, LONGEST_TASK, MOST_DEQUES, MOST_QUANTA, MOST_TASKS,
+    MOST_WORKERS,
 };
 
 const HEADER: &str = include_str!("../../../../include/jirvaldo.h");
@@ -46,6 +47,7 @@ fn limits() {
         ("JIRVALDO_PLAN_MAX", LONGEST_PLAN),
         ("JIRVALDO_TICKS_MAX", LONGEST_TASK),
         ("JIRVALDO_WORKERS_MAX", MOST_WORKERS),
+        ("JIRVALDO_DEQUES_MAX", MOST_DEQUES),
         ("JIRVALDO_QUANTA_MAX", MOST_QUANTA),
         ("JIRVALDO_LINE_BUFFER", LINE_BUFFER),
     ];

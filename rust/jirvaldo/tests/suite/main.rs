@@ -1,6 +1,7 @@
 //! The tests of the crate's public part, in one program.
 
 mod calls;
+mod deques;
 mod examples;
 mod gentle;
 mod header;
@@ -83,6 +84,13 @@ fn wide(utilization: u64) -> Vec<u8> {
     tasks.push(vec![]);
     let lists: Vec<&[u32]> = tasks.iter().map(Vec::as_slice).collect();
     plan(2, utilization, 1, &lists)
+}
+
+/// The plan of `examples/half-a-line.in`, behind its length in two bytes: thirteen tasks, of which worker 0 alone has 5, 6, 4, 2 in its
+/// deque after three, and 7, 8, 6, 4, 2 after four.
+fn nested() -> &'static [u8] {
+    let input = include_bytes!("../../../../examples/half-a-line.in");
+    &input[2..2 + usize::from(input[1])]
 }
 
 /// A task followed by two, and these by one.
