@@ -3,6 +3,7 @@
 use jirvaldo::inspect::{Growth, View};
 use jirvaldo::Counters;
 
+use crate::in_use::deques_in_use;
 use crate::pair::{Proved, Reference};
 
 /// The name of what differs.
@@ -108,6 +109,21 @@ fn tasks(view: View, reference: &Reference) -> Option<Part> {
         (
             "muggable deques",
             ages.all(|(age, deque)| view.muggable_deque(age).eq(deque.iter().copied())),
+        ),
+    ])
+}
+
+/// In what the counts of request U12 differ, if they do: the deques in use, and the largest count granted so far by the calls and by the
+/// reference's own account.
+pub fn bounds(proved: &Proved, reference: &Reference, largest: usize) -> Option<Part> {
+    first_other(&[
+        (
+            "number of deques in use",
+            deques_in_use(proved) == reference.in_use(),
+        ),
+        (
+            "largest count granted so far",
+            largest == reference.largest_granted(),
         ),
     ])
 }

@@ -37,10 +37,11 @@ impl Difference {
 
     /// The same, with the call after which it was found.
     pub fn after(self, call: &Call) -> Difference {
-        Difference {
-            detail: format!("after {call:?}"),
-            ..self
-        }
+        let detail = match self.detail.as_str() {
+            "" => format!("after {call:?}"),
+            detail => format!("after {call:?}: {detail}"),
+        };
+        Difference { detail, ..self }
     }
 }
 

@@ -6,6 +6,8 @@
 //!   tasks, the ticks left of each task, every deque and every muggable deque task by task, desire and its power, allotment, quantum and
 //!   its usage, the noted offer, counts, status and the ten counters. After a refused call the reference is also compared with the proved
 //!   job's copy from before. This is so of every call that the last lines count, whatever the plan's size;
+//! - after each of these calls as many deques are in use on both sides, and at most the largest count granted so far, which both the run and
+//!   the reference keep; in a tick the reference has no more after any worker's cycle, either;
 //! - a grant of a log is at times made by way of an offer: it is opened for as many or fewer than offered, or withdrawn and then granted,
 //!   with calls in between that are refused while it is noted;
 //! - a whole log, run by `run_log` on copies, at times while an offer is noted: the same answer, the same count of refused calls and the
@@ -14,16 +16,17 @@
 //! - at random places and at the end of each log: the wording from a random sheet and the counters line in buffers of many sizes, with the
 //!   bytes around it.
 //!
-//! Case 0 and every hundredth after it begin all quanta that a job may have, and go on; the cases after case 0 have the plans at the edge
-//! of each question. The run stops at the end of the case in which it has made N calls or T seconds have passed; the same seed gives the
-//! same cases. At the first difference it prints the seed, the case, the call and both states, and exits with 1; `--case K` runs that case
-//! alone.
+//! Case 0 and every hundredth after it begin all quanta that a job may have, and go on; four of a hundred have a tree of forks, which brings
+//! up to 64 deques into use; the other cases after case 0 have the plans at the edge of each question. The run stops at the end of the case
+//! in which it has made N calls or T seconds have passed; the same seed gives the same cases. At the first difference it prints the seed,
+//! the case, the call and both states, and exits with 1; `--case K` runs that case alone.
 
 #![forbid(unsafe_code)]
 
 mod accept;
 mod compare;
 mod difference;
+mod in_use;
 mod inputs;
 mod options;
 mod pair;

@@ -1,10 +1,12 @@
 //! Two jobs that are given the same calls, and what is compared.
 
 use reference::coverage::{Seen, Watch};
-use reference::{run_log_with, Entry};
+use reference::lines::excess;
+use reference::{run_log_with, Entry, Excess};
 
 use crate::compare::{self, Part};
 use crate::difference::Difference;
+use crate::in_use::{deques_in_use, LIBRARY_BROKEN, REFERENCE_BROKEN};
 use crate::totals::Totals;
 
 pub use jirvaldo::Job as Proved;
@@ -49,6 +51,14 @@ impl<'a> Call<'a> {
             Call::Withdraw => reference::Call::Withdraw,
         }
     }
+
+    /// The workers that it grants where it is accepted.
+    fn granted(self) -> usize {
+        match self {
+            Call::Grant(workers) | Call::Open(workers) => at_most_usize(workers),
+            _ => 0,
+        }
+    }
 }
 
 /// The number of a refusal of the proved library, or 0.
@@ -72,6 +82,8 @@ pub struct Pair {
     pub reference: Reference,
     before: Proved,
     watch: Watch,
+    /// The largest count granted so far, by the calls and the proved job's answers; of a log that is run whole, by the reference's.
+    largest: usize,
 }
 
 impl Pair {
@@ -82,6 +94,7 @@ impl Pair {
             proved,
             reference,
             watch: Watch::default(),
+            largest: 0,
         }
     }
 
@@ -90,13 +103,31 @@ impl Pair {
         Difference::new(part, detail, Some(&self.proved), Some(&self.reference))
     }
 
-    /// Compares the two whole states.
+    /// Checks the bound of request U12 on both sides, and compares the two whole states.
     pub fn compare(&self, totals: &mut Totals) -> Result<(), Difference> {
         totals.states += 1;
-        match compare::states(&self.proved, &self.reference) {
-            None => Ok(()),
-            Some(part) => Err(self.difference(part, String::new())),
+        self.check_library()?;
+        self.check_reference(excess(&self.reference, None))?;
+        let part = compare::states(&self.proved, &self.reference)
+            .or_else(|| compare::bounds(&self.proved, &self.reference, self.largest));
+        part.map_or(Ok(()), |part| Err(self.difference(part, String::new())))
+    }
+
+    /// The library has at most as many deques in use as the largest count granted so far.
+    fn check_library(&self) -> Result<(), Difference> {
+        let (in_use, largest) = (deques_in_use(&self.proved), self.largest);
+        if in_use <= largest {
+            return Ok(());
         }
+        let detail = format!("{in_use} deques in use, and that count is {largest}");
+        Err(self.difference(LIBRARY_BROKEN, detail))
+    }
+
+    /// So has the reference; in a call that is compared also after each worker's cycle.
+    fn check_reference(&self, found: Option<Excess>) -> Result<(), Difference> {
+        found.map_or(Ok(()), |excess| {
+            Err(self.difference(REFERENCE_BROKEN, excess.to_string()))
+        })
     }
 
     /// Makes a call of both and compares the answers and the whole states. After a refused call the proved job's copy from before is
@@ -104,7 +135,7 @@ impl Pair {
     pub fn call(&mut self, call: Call, totals: &mut Totals) -> Result<(), Difference> {
         self.before.clone_from(&self.proved);
         let proved = proved_number(&self.call_proved(call));
-        let reference = self.call_reference(call, totals);
+        let (reference, found) = self.call_reference(call, totals);
         totals.count_call(call, proved);
         if proved != reference {
             let answers = format!("{call:?}: proved {proved}, reference {reference}");
@@ -113,7 +144,11 @@ impl Pair {
         if proved != 0 && !self.is_as_before() {
             return Err(self.difference("job after a refused call", format!("{call:?}")));
         }
-        let compared = self.compare(totals);
+        if proved == 0 {
+            self.largest = self.largest.max(call.granted());
+        }
+        let bounded = self.check_reference(found);
+        let compared = bounded.and_then(|()| self.compare(totals));
         compared.map_err(|difference| difference.after(&call))
     }
 
@@ -127,17 +162,23 @@ impl Pair {
         }
     }
 
-    /// Makes a call of the reference and counts what it does. Returns the number of the refusal, or 0.
-    fn call_reference(&mut self, call: Call, totals: &mut Totals) -> u8 {
+    /// Makes a call of the reference and counts what it does. Returns the number of the refusal, or 0, and where the call leaves more deques
+    /// in use than it may, if it does.
+    fn call_reference(&mut self, call: Call, totals: &mut Totals) -> (u8, Option<Excess>) {
         let (seen, call) = (Seen::of(&self.reference), call.of_reference());
-        let answer = call.apply(&mut self.reference);
+        let before = self.reference.in_use();
+        let answer = call.apply_counted(&mut self.reference);
+        let job = &self.reference;
         totals
             .offers
-            .cover(&mut self.watch, seen, call, &answer, &self.reference);
-        if let Ok(Some(report)) = &answer {
-            totals.count_report(report, &self.reference);
+            .cover(&mut self.watch, seen, call, &answer, job);
+        let did = answer.iter().flatten().next();
+        if let Some(report) = did {
+            totals.count_report(report, job);
         }
-        reference_number(&answer)
+        totals.in_use.count(before, did, job);
+        totals.in_use.count_more(call, answer.is_ok(), job);
+        (reference_number(&answer), excess(job, did))
     }
 
     /// Whether both jobs are as the proved one was before the call.
@@ -150,9 +191,16 @@ impl Pair {
     pub fn run_log(&mut self, log: &[u8], totals: &mut Totals) -> Result<(), Difference> {
         totals.noted_logs += u64::from(self.reference.noted_offer().is_some());
         let proved = self.proved.run_log(log);
-        let reference = run_log_with(&mut self.reference, log, |_, _, answer| {
+        let (mut largest, mut found) = (self.largest, None);
+        let reference = run_log_with(&mut self.reference, log, |job, entry, answer| {
             totals.count_in_log(reference_number(answer));
+            if answer.is_ok() {
+                largest = largest.max(Call::from(*entry).granted());
+            }
+            found = found.or_else(|| excess(job, answer.as_ref().ok()));
         });
+        self.largest = largest;
+        self.check_reference(found)?;
         let broken = reference.broken.map_or(Ok(()), Err);
         let pair = (proved_number(&proved.end), proved.refused_calls);
         let other = (reference_number(&broken), reference.refused);

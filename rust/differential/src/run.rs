@@ -5,6 +5,7 @@ use std::time::Instant;
 use reference::generator::edges::{edge_plans, gentle_edge_plans};
 use reference::generator::logs::marathon_log;
 use reference::generator::plans::{gentle_marathon_draft, marathon_draft};
+use reference::generator::trees::{spreading_log, tree_draft};
 use reference::generator::Random;
 
 use crate::accept::accept;
@@ -50,8 +51,13 @@ fn is_marathon(case: u64) -> bool {
     case % 100 == 0
 }
 
-/// Every hundredth case has a plan for as many quanta as a job may begin, every third of them of form 3. The cases after the first have
-/// those at the edge of each question, all others any.
+/// Whether a case is about as many deques in use as there can be.
+fn is_tree(case: u64) -> bool {
+    case % 25 == 12
+}
+
+/// Every hundredth case has a plan for as many quanta as a job may begin, every third of them of form 3, and four of a hundred have a tree
+/// of forks. The other cases after the first have the plans at the edge of each question, and then any.
 fn plan(random: &mut Random, case: u64, edges: &[Vec<u8>]) -> Vec<u8> {
     if is_marathon(case) {
         let draft = match case % 300 {
@@ -60,7 +66,11 @@ fn plan(random: &mut Random, case: u64, edges: &[Vec<u8>]) -> Vec<u8> {
         };
         return draft.bytes();
     }
-    let others_before = case - 1 - case / 100;
+    if is_tree(case) {
+        return tree_draft(random).bytes();
+    }
+    let (marathons_before, trees_before) = (case / 100 + 1, (case + 12) / 25);
+    let others_before = case - marathons_before - trees_before;
     let edge = usize::try_from(others_before).ok();
     let edge = edge.and_then(|place| edges.get(place));
     edge.cloned().unwrap_or_else(|| inputs::plan(random))
@@ -80,6 +90,8 @@ fn try_case(
     };
     let log = if is_marathon(case) {
         marathon_log(random, pair.reference.clone())
+    } else if is_tree(case) {
+        spreading_log(random, pair.reference.clone())
     } else {
         inputs::log(random, &pair.reference)
     };

@@ -6,13 +6,16 @@ use reference::generator::logs::marathon_log;
 use reference::generator::plans::{gentle_draft, gentle_marathon_draft, marathon_draft};
 use reference::generator::plans::{sound_draft, Draft};
 use reference::generator::Random;
+use reference::lines::{self, TOO_LARGE, TOO_SMALL};
 use reference::offer::{self, Kind, Noting};
 use reference::{form, growth, lasting, rest, theft, withdrawal};
-use reference::{DigitCount, Entries, Lasting, Pace, Refusal, Rest, Rules, MOST_QUANTA};
+use reference::{DigitCount, Entries, Largest, Lasting, Pace, Refusal, Rest, Rules, Source};
+use reference::{Share, MOST_QUANTA};
 
 use crate::accept::{answered, fresh};
 use crate::compare::{self, Part};
 use crate::difference::Difference;
+use crate::in_use::{deques_in_use, LIBRARY_BROKEN, REFERENCE_BROKEN};
 use crate::inputs;
 use crate::options::Options;
 use crate::pair::{Call, Pair, Proved, Reference};
@@ -273,7 +276,11 @@ fn another_theft_is_found() {
             "deques"
         };
         assert!(parts.contains(&part));
+        // Each brings one deque into use, or none where it leaves nothing to the victim; so the bound holds.
+        assert!(!parts.contains(&REFERENCE_BROKEN));
     }
+    let shares = theft::BENT.map(|theft| theft.share);
+    assert!(shares.contains(&Share::Whole));
 }
 
 #[test]
@@ -373,9 +380,9 @@ fn another_ratio_is_found() {
     assert_eq!(part(16, &log), Some("desire"));
 }
 
-/// In what the jobs of a generated case first differ where the reference follows that rule of the note, and half of the log's grants go by
-/// way of offers. At the limit the case is one that spends every quantum.
-fn with_noting(noting: Noting, at_the_limit: bool, seed: u64) -> Option<Part> {
+/// In what the jobs of a generated case first differ where the reference follows those rules, and half of the log's grants go by way of
+/// offers. At the limit the case is one that spends every quantum.
+fn with_offers(rules: Rules, at_the_limit: bool, seed: u64) -> Option<Part> {
     let random = &mut Random::new(seed);
     let plan = if at_the_limit {
         marathon_draft(random)
@@ -388,10 +395,7 @@ fn with_noting(noting: Noting, at_the_limit: bool, seed: u64) -> Option<Part> {
     } else {
         inputs::log(random, &pair.reference)
     };
-    pair.reference = pair.reference.with_rules(Rules {
-        noting,
-        ..Rules::default()
-    });
+    pair.reference = pair.reference.with_rules(rules);
     let totals = &mut Totals::default();
     let mut walk = Walk {
         pair,
@@ -401,6 +405,15 @@ fn with_noting(noting: Noting, at_the_limit: bool, seed: u64) -> Option<Part> {
     };
     let found = walk.follow(&log).err();
     found.map(|difference| difference.part)
+}
+
+/// The same where it follows that rule of the note.
+fn with_noting(noting: Noting, at_the_limit: bool, seed: u64) -> Option<Part> {
+    let rules = Rules {
+        noting,
+        ..Rules::default()
+    };
+    with_offers(rules, at_the_limit, seed)
 }
 
 /// Whether a rule of the note is that some call asks this question, or does not.
@@ -446,6 +459,104 @@ fn the_right_noting_does_not_differ() {
     for noting in [Noting::default(), Noting::AskedFirst] {
         assert!((0..300).all(|seed| with_noting(noting, false, seed).is_none()));
         assert_eq!(with_noting(noting, true, 0), None);
+    }
+}
+
+#[test]
+fn another_source_of_deques_is_found() {
+    let right = Rules::default();
+    for source in lines::BENT {
+        // Not in all: most logs withdraw few deques or none.
+        let parts = parts_with_bent(Rules { source, ..right }, sound_draft, 2_000);
+        // Most often the states differ before there are too many.
+        let broken = parts.iter().filter(|&&part| part == REFERENCE_BROKEN);
+        let broken = broken.count();
+        assert!(broken > 10, "{broken} with {source:?}");
+    }
+}
+
+/// By an idea of the largest count that is too small, the bound does not hold. One that is too large is told by the number alone.
+#[test]
+fn another_largest_count_is_found() {
+    let parts_by = |largest: Largest| {
+        let rules = Rules {
+            largest,
+            ..Rules::default()
+        };
+        let parts = (0..200).filter_map(|seed| with_offers(rules, false, seed));
+        let parts: Vec<Part> = parts.collect();
+        assert!(parts.len() > 25, "{} with {largest:?}", parts.len());
+        parts
+    };
+    for largest in TOO_SMALL {
+        assert!(parts_by(largest).contains(&REFERENCE_BROKEN), "{largest:?}");
+    }
+    for largest in TOO_LARGE {
+        let parts = parts_by(largest);
+        let number = |&part: &Part| part == "largest count granted so far";
+        assert!(parts.iter().all(number), "{largest:?}");
+    }
+}
+
+#[test]
+fn other_counts_of_deques_are_found() {
+    let mut jobs = pair(&fork(), &fork());
+    let part = |pair: &Pair, largest| compare::bounds(&pair.proved, &pair.reference, largest);
+    assert_eq!((deques_in_use(&jobs.proved), part(&jobs, 0)), (0, None));
+    assert!(jobs.proved.grant(1).is_ok());
+    assert_eq!(deques_in_use(&jobs.proved), 1);
+    assert_eq!(part(&jobs, 0), Some("number of deques in use"));
+    assert!(jobs.reference.grant(1).is_ok());
+    assert_eq!(part(&jobs, 1), None);
+    assert_eq!(part(&jobs, 0), Some("largest count granted so far"));
+    assert_eq!(part(&jobs, 2), Some("largest count granted so far"));
+    // A muggable deque is one of them.
+    for log in [&[0x81, 0][..], &[0]] {
+        assert_eq!(jobs.proved.run_log(log).refused_calls, 0);
+    }
+    assert_eq!(deques_in_use(&jobs.proved), 1);
+}
+
+/// The two states are the same, and by the calls that the pair made nothing was granted.
+#[test]
+fn too_many_deques_of_the_library_are_found() {
+    let mut pair = pair(&fork(), &fork());
+    assert!(pair.proved.grant(1).is_ok() && pair.reference.grant(1).is_ok());
+    assert_eq!(compare::states(&pair.proved, &pair.reference), None);
+    let totals = &mut Totals::default();
+    let found = pair.compare(totals).map_err(|difference| difference.part);
+    assert_eq!(found, Err(LIBRARY_BROKEN));
+    let found = pair.call(Call::Tick(&[0]), totals).err();
+    let text = found.map_or(String::new(), |difference| difference.to_string());
+    let expected = [
+        LIBRARY_BROKEN,
+        "after Tick([0]): 1 deques in use, and that count is 0",
+    ];
+    assert!(text.lines().take(2).eq(expected), "{text}");
+}
+
+/// A deque that is withdrawn and mugged, and stays among the muggable ones: it is found after a worker's cycle, and in a log after the call.
+#[test]
+fn too_many_deques_of_the_reference_are_found() {
+    let log = [1, 0x81, 0, 0, 0x80, 1, 0x81, 0];
+    let source = Source::MugCopies;
+    let mut pair = pair(&fork(), &fork());
+    pair.reference = pair.reference.with_rules(Rules {
+        source,
+        ..Rules::default()
+    });
+    let totals = &mut Totals::default();
+    let whole = pair.clone().run_log(&log, totals);
+    let mut entries = Entries::new(&log).filter_map(Result::ok);
+    let called = entries.try_for_each(|entry| pair.call(Call::from(entry), totals));
+    let details = [
+        "2 deques in use after the call, and the largest count granted so far is 1",
+        "after Tick([0]): 2 deques in use after the cycle of worker 0, and the largest count granted so far is 1",
+    ];
+    for (found, detail) in [whole, called].into_iter().zip(details) {
+        let text = found.err().map_or(String::new(), |found| found.to_string());
+        let expected = [REFERENCE_BROKEN, detail];
+        assert!(text.lines().take(2).eq(expected), "{text}");
     }
 }
 
@@ -630,6 +741,7 @@ fn a_run_reaches_every_refusal() {
     assert!(totals.log_refusals[11..=17].iter().all(|&count| count > 0));
     assert!(totals.log_refusals[25] > 0 && totals.noted_logs > 0);
     assert_eq!(totals.offers.missing(), [""; 0]);
+    assert_eq!(totals.in_use.missing(), 0, "{}", totals.in_use);
     assert!(totals.noted_replacements.iter().all(|&count| count > 0));
     assert!(totals.responsiveness[2..].iter().all(|&count| count > 0));
     assert!(totals.ratios.iter().all(|(_, powers)| powers.plans > 0));

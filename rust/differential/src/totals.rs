@@ -5,6 +5,7 @@ use std::fmt;
 use reference::coverage::{OfferBranch, Offers, Powers, Ratios};
 use reference::{Cycle, DigitCount, GrantReport, Growth, Plan, Report, Tick, TickReport};
 
+use crate::in_use::InUse;
 use crate::pair::{Call, Reference};
 
 /// A place for each number of a refusal up to the highest, 28.
@@ -53,6 +54,8 @@ pub struct Totals {
     pub finishes: [u64; 5],
     /// What all calls reached of offers, openings and withdrawals.
     pub offers: Offers,
+    /// What all calls reached of the deques in use.
+    pub in_use: InUse,
     /// Logs run whole.
     pub logs: u64,
     /// Those of them that came while an offer was noted.
@@ -93,6 +96,7 @@ impl Default for Totals {
             behind: 0,
             finishes: [0; 5],
             offers: Offers::default(),
+            in_use: InUse::default(),
             logs: 0,
             noted_logs: 0,
             log_calls: 0,
@@ -370,6 +374,7 @@ impl fmt::Display for Totals {
             self.logs, self.noted_logs, self.log_calls
         )?;
         self.show_offers(out)?;
+        write!(out, "{}", self.in_use)?;
         writeln!(out, "{:>12}  copies that took other calls", self.branches)?;
         writeln!(out, "{:>12}  comparisons of whole states", self.states)?;
         let [work, mug, steal, successes] = self.cycles;

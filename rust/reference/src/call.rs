@@ -40,4 +40,15 @@ impl Call<'_> {
             Call::Withdraw => job.withdraw().map(|()| None),
         }
     }
+
+    /// The same; a tick counts the deques in use after each worker's cycle.
+    pub fn apply_counted(self, job: &mut Job) -> Answer {
+        match self {
+            Call::Tick(choices) => {
+                let report = job.tick_counted(choices)?;
+                Ok(Some(Report::Tick(report)))
+            }
+            _ => self.apply(job),
+        }
+    }
 }

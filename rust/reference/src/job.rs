@@ -8,6 +8,7 @@ use crate::counters::DigitCount;
 use crate::form::Reading;
 use crate::growth::{Level, Pace};
 use crate::lasting::{Event, Lasting, Tick};
+use crate::lines::{self, Granted, Largest, Said, Source};
 use crate::offer::{Judged, Kind, Noting};
 use crate::plan::{read_plan_with, Plan};
 use crate::quantum::{is_efficient, QuantumEnd};
@@ -42,6 +43,10 @@ pub struct Rules {
     pub pace: Pace,
     /// How offers are noted.
     pub noting: Noting,
+    /// What brings a deque into use.
+    pub source: Source,
+    /// Which count is the largest granted so far.
+    pub largest: Largest,
 }
 
 impl Default for Rules {
@@ -56,6 +61,8 @@ impl Default for Rules {
             lasting: Lasting::default(),
             pace: Pace::default(),
             noting: Noting::default(),
+            source: Source::default(),
+            largest: Largest::default(),
         }
     }
 }
@@ -111,6 +118,7 @@ pub struct Job {
     judged: Judged,
     quanta_begun: u32,
     note: Option<usize>,
+    granted: Granted,
     work_cycles: u64,
     mug_cycles: u64,
     steal_cycles: u64,
@@ -169,6 +177,9 @@ pub struct TickReport {
     /// Workers after the finisher. They take no cycle, and each counts a steal
     /// cycle in vain.
     pub rested: usize,
+    /// The deques in use after each worker's cycle, where they were counted.
+    /// Those after the finisher move nothing.
+    pub in_use: Vec<usize>,
     /// Set if the quantum closed with this tick.
     pub quantum_end: Option<QuantumEnd>,
 }
@@ -200,6 +211,7 @@ impl Job {
             judged: Judged::default(),
             quanta_begun: 0,
             note: None,
+            granted: Granted::default(),
             work_cycles: 0,
             mug_cycles: 0,
             steal_cycles: 0,
@@ -269,6 +281,16 @@ impl Job {
     /// are taken.
     pub fn muggable_deques(&self) -> Vec<&Deque> {
         self.muggable.iter().map(|waiting| &waiting.deque).collect()
+    }
+
+    /// The deques in use: non-empty lines and orphans together.
+    pub fn in_use(&self) -> usize {
+        lines::in_use(&self.deques, self.muggable.len())
+    }
+
+    /// The largest count granted so far.
+    pub fn largest_granted(&self) -> usize {
+        self.rules.largest.of(self.granted)
     }
 
     /// The desire (document 01: wanted).
@@ -353,24 +375,30 @@ impl Job {
     pub fn grant(&mut self, allotment: usize) -> Result<GrantReport, Refusal> {
         self.enter(Kind::Grant);
         let asked = self.ask_grant(Kind::Grant, allotment);
-        self.leave(Kind::Grant, asked)?;
+        self.leave(Kind::Grant, allotment, asked)?;
         Ok(self.begin(allotment))
     }
 
     /// What a grant does whose questions are answered with yes.
     fn begin(&mut self, allotment: usize) -> GrantReport {
         let mut report = self.resize(allotment);
-        if !self.ever_granted {
+        if !self.ever_granted || self.rules.source == Source::EveryGrant {
             if let Some(deque) = self.deques.first_mut() {
                 deque.push_front(0);
+                report.first_above_zero = !self.ever_granted;
                 self.ever_granted = true;
-                report.first_above_zero = true;
             }
         }
+        self.hear(Said::Granted, allotment);
         self.quantum = Some(OpenQuantum::default());
         self.judged = self.rules.noting.judged(allotment, allotment);
         self.quanta_begun += 1;
         report
+    }
+
+    /// Remembers a count, if it was granted.
+    fn hear(&mut self, said: Said, count: usize) {
+        self.granted = self.rules.largest.heard(self.granted, said, count);
     }
 
     /// The questions of a grant, which an offer meets too.
@@ -433,7 +461,7 @@ impl Job {
     pub fn offer(&mut self, count: usize) -> Result<(), Refusal> {
         self.enter(Kind::Offer);
         let asked = self.ask_grant(Kind::Offer, count);
-        self.leave(Kind::Offer, asked)?;
+        self.leave(Kind::Offer, count, asked)?;
         let noting = self.rules.noting;
         self.note = noting.noted(self.note, count, self.desire());
         self.overdo(Kind::Offer, count);
@@ -444,7 +472,7 @@ impl Job {
     /// what a grant of them does. Or refuses with 24 or 14 and changes nothing.
     pub fn open(&mut self, count: usize) -> Result<GrantReport, Refusal> {
         let asked = self.ask_open(count);
-        let (offered, opened) = self.leave(Kind::Open, asked)?;
+        let (offered, opened) = self.leave(Kind::Open, count, asked)?;
         let noting = self.rules.noting;
         self.note = noting.left(offered, opened);
         if opened == 0 && noting == Noting::ZeroOpensNothing {
@@ -492,10 +520,19 @@ impl Job {
         }
     }
 
-    /// Where a call is refused, the note may go. Returns the answer.
-    fn leave<T>(&mut self, kind: Kind, asked: Result<T, Refusal>) -> Result<T, Refusal> {
-        if asked.is_err() && self.rules.noting == Noting::LostBy(kind) {
-            self.note = None;
+    /// Where a call of so many workers is refused, the note may go. Returns the
+    /// answer.
+    fn leave<T>(
+        &mut self,
+        kind: Kind,
+        count: usize,
+        asked: Result<T, Refusal>,
+    ) -> Result<T, Refusal> {
+        if asked.is_err() {
+            self.hear(Said::Refused, count);
+            if self.rules.noting == Noting::LostBy(kind) {
+                self.note = None;
+            }
         }
         asked
     }
@@ -508,6 +545,9 @@ impl Job {
 
     /// An accepted offer or withdrawal may do more.
     fn overdo(&mut self, kind: Kind, count: usize) {
+        if kind == Kind::Offer {
+            self.hear(Said::Offered, count);
+        }
         match self.rules.noting {
             Noting::Begins(doing) if doing == kind => self.quanta_begun += 1,
             Noting::Opens(doing) if doing == kind => drop(self.begin(count)),
@@ -524,6 +564,18 @@ impl Job {
     /// refuses with 11, 15, 16 or 17 and changes nothing. The choices of
     /// workers after the finisher are not looked at beyond 17.
     pub fn tick(&mut self, choices: &[u8]) -> Result<TickReport, Refusal> {
+        self.tick_with(choices, |_| ())
+    }
+
+    /// The same, and shows the job after each cycle.
+    pub(crate) fn tick_with<F>(
+        &mut self,
+        choices: &[u8],
+        mut show: F,
+    ) -> Result<TickReport, Refusal>
+    where
+        F: FnMut(&Job),
+    {
         self.enter(Kind::Tick);
         let mut quantum = self.ask_tick(choices)?;
         quantum.ticks += 1;
@@ -532,6 +584,7 @@ impl Job {
             let cycle = self.cycle(worker, usize::from(choice));
             quantum.usage += self.count(&cycle);
             cycles.push(cycle);
+            show(self);
             if self.is_finished() {
                 break;
             }
@@ -544,6 +597,7 @@ impl Job {
         Ok(TickReport {
             cycles,
             rested,
+            in_use: Vec::new(),
             quantum_end: self.close_quantum(quantum),
         })
     }
@@ -564,7 +618,9 @@ impl Job {
     fn cycle(&mut self, worker: usize, choice: usize) -> Cycle {
         if let Some(task) = self.deques[worker].pop_front() {
             self.work(worker, task)
-        } else if let Some(oldest) = self.muggable.pop_front() {
+        } else if self.steals_first(choice) {
+            self.steal(worker, choice)
+        } else if let Some(oldest) = self.next_muggable() {
             let length = oldest.deque.len();
             let begun = self.befalls(Event::Mugged, &oldest.deque);
             self.deques[worker] = oldest.deque;
@@ -574,11 +630,25 @@ impl Job {
         }
     }
 
+    /// Whether a worker with an empty deque steals although one is muggable.
+    fn steals_first(&self, choice: usize) -> bool {
+        self.rules.source == Source::StealsFirst && self.deques[choice].len() > 1
+    }
+
+    /// The muggable deque that is taken next, if there is one.
+    fn next_muggable(&mut self) -> Option<Withdrawn> {
+        match self.rules.source {
+            Source::MugCopies => self.muggable.front().cloned(),
+            _ => self.muggable.pop_front(),
+        }
+    }
+
     /// Works one tick of a task that has just left the front of the worker's
     /// deque. With ticks left it goes back there; after its last tick it stays
-    /// away and its successors come.
+    /// away and its successors come. By bent rules it may be worked already.
     fn work(&mut self, worker: usize, task: u16) -> Cycle {
-        let (lasting, left) = (self.rules.lasting, self.left[usize::from(task)] - 1);
+        let lasting = self.rules.lasting;
+        let left = self.left[usize::from(task)].saturating_sub(1);
         let tick = Tick {
             is_first: left + 1 == self.ticks_of(task),
             is_last: left == 0,

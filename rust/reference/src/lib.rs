@@ -7,9 +7,9 @@
 //! plans), [`job`] (grant and tick), [`offer`] (the note of an offer),
 //! [`lasting`] (how long a piece stays), [`withdrawal`] (which orphan is taken
 //! first), [`theft`] (what a steal takes), [`rest`] (what the workers after the
-//! finisher count), [`quantum`] (round's end), [`growth`] (how it moves the
-//! desire), [`call`] (the calls as one kind), [`log`], [`label`], [`counters`],
-//! [`program`].
+//! finisher count), [`lines`] (how many deques are in use), [`quantum`] (round's
+//! end), [`growth`] (how it moves the desire), [`call`] (the calls as one kind),
+//! [`log`], [`label`], [`counters`], [`program`].
 //! [`generator`] makes random plans and logs from a seed and [`coverage`]
 //! counts what they reach. [`stored`] chooses a set of cases to be kept.
 //!
@@ -26,6 +26,7 @@ pub mod growth;
 pub mod job;
 pub mod label;
 pub mod lasting;
+pub mod lines;
 pub mod log;
 pub mod offer;
 pub mod plan;
@@ -44,6 +45,7 @@ pub use growth::{Growth, Level, Pace};
 pub use job::{Cycle, GrantReport, Job, OpenQuantum, Rules, Status, TickReport, MOST_QUANTA};
 pub use label::wording;
 pub use lasting::{Lasting, Tick};
+pub use lines::{Excess, Largest, Source};
 pub use log::{run_log, run_log_with, Entries, Entry, LogOutcome, Report};
 pub use offer::Noting;
 pub use plan::{read_plan, read_plan_with, Plan, Task};

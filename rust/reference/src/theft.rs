@@ -13,6 +13,8 @@ pub enum Share {
     Half,
     /// Half, rounded up.
     HalfOrMore,
+    /// All of it.
+    Whole,
 }
 
 /// The rule of a steal that succeeds. A test bends it.
@@ -36,13 +38,17 @@ const HALF: Theft = Theft {
 };
 
 /// Rules that differ from it in one point each.
-pub const BENT: [Theft; 5] = [
+pub const BENT: [Theft; 6] = [
     Theft {
         share: Share::One,
         ..HALF
     },
     Theft {
         share: Share::HalfOrMore,
+        ..HALF
+    },
+    Theft {
+        share: Share::Whole,
         ..HALF
     },
     Theft {
@@ -94,6 +100,7 @@ impl Theft {
             Share::One => taken == 0,
             Share::Half => taken + 1 < left,
             Share::HalfOrMore => taken < left,
+            Share::Whole => left > 0,
         }
     }
 

@@ -4,6 +4,7 @@ use reference::coverage::{Branch, Coverage, BRANCHES};
 use reference::form;
 use reference::generator::graph::{graph, Shape};
 use reference::generator::plans::Draft;
+use reference::generator::trees::{tree, tree_draft};
 use reference::generator::{cases, gentle_cases, older_cases, Random};
 use reference::{read_plan, Plan, Refusal};
 
@@ -32,6 +33,20 @@ fn graphs_are_sound() {
             assert_eq!(plan_refusal(&Draft::of_graph(&drawn).bytes()), 0);
             assert!(drawn.len() <= count && count <= drawn.len() + 2);
         }
+    }
+}
+
+#[test]
+fn trees_are_sound() {
+    for levels in 0..=8 {
+        let drawn = tree(levels);
+        assert_eq!(plan_refusal(&Draft::of_graph(&drawn).bytes()), 0);
+        let forks = drawn.iter().filter(|list| list.len() == 2).count();
+        assert_eq!((forks, drawn.len()), ((1 << levels) - 1, 3 * forks + 1));
+    }
+    for seed in 0..100 {
+        let draft = tree_draft(&mut Random::new(seed));
+        assert_eq!(plan_refusal(&draft.bytes()), 0);
     }
 }
 

@@ -5,6 +5,7 @@ mod examples;
 mod generated;
 mod gentle;
 mod lasting;
+mod lines;
 mod mechanics;
 mod offers;
 mod properties;

@@ -3,7 +3,7 @@
 use reference::coverage::{Coverage, BRANCHES};
 use reference::stored::{stored_cases, stored_set, KEPT_SEED};
 use reference::MOST_QUANTA;
-use reference::{form, growth, lasting, rest, theft, withdrawal};
+use reference::{form, growth, lasting, lines, rest, theft, withdrawal};
 use reference::{program_output, program_output_with, read_plan, run_log_with, split_input};
 use reference::{Cycle, Entries, Growth, Job, Plan, Refusal, Report, Rules, Status};
 
@@ -304,6 +304,7 @@ fn kept_set_tells_the_requests_rules_apart() {
             .map(|(reading, _)| Rules { reading, ..right })
             .to_vec(),
         growth::BENT.map(|pace| Rules { pace, ..right }).to_vec(),
+        lines::BENT.map(|source| Rules { source, ..right }).to_vec(),
     ];
     for rules in bent.concat() {
         let found = told_apart(rules);
