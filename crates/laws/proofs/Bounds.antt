@@ -1,7 +1,7 @@
 -- How many deques and how many tasks there are: what a worker's cycle makes of the number of deques in use (`cycle-lines`); where that
--- number is at most some number of workers or more, it stays so, because a steal happens only when no muggable deque waits
--- (`cycles-bounded`); and all deques of a placed execution together hold tasks of the plan,
--- each at most once, and so at most N (`tasks-held`).
+-- number and the workers are at most some number, they stay so, because a steal happens only when no muggable deque waits
+-- (`cycles-bounded`); and all deques of a placed execution together hold tasks of the plan, each at most once, and so at most N
+-- (`tasks-held`).
 -- Assumes nothing.
 use mathlib.Core.Path.{_≡_, refl, ap, _∙_}
 use mathlib.Core.Bool.{Bool, true, false, cond}
