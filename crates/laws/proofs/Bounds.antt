@@ -19,56 +19,13 @@ use Rattle.model.specs.Machine.{Execution, deque-of, one-tick-less, worked-dequ
 use Rattle.model.specs.Machine.{successful-steal, failed-steal, cycle-of, cycle, cycles}
 use Rattle.model.specs.Lines.{LinesAfter, tasks-standing, TasksHeld}
 use Rattle.laws.specs.Invariants.{in-deques, Placed, Bounded}
-use Rattle.laws.proofs.Deques.{one-if-filled, one-at-most, filled-is-one, empty-or-filled, busy-set, busy-at-most}
+use Rattle.laws.proofs.Deques.{one-if-filled, filled-is-one, empty-or-filled, busy-set, busy-at-most}
 use Rattle.laws.proofs.Deques.{occurrences-append, occurs, in-deques-append}
 use Rattle.laws.proofs.Stealing.{left-filled, half-taken, apart, victim-within}
-use Rattle.laws.proofs.Cycles.{cycle-cases, cycles-keep}
+use Rattle.laws.proofs.Cycles.{cycle-cases, cycle-allotment, cycles-keep}
 use Rattle.laws.proofs.Placement.{stands, standing-once}
 
--- ---- deques
-
-pub bounded-more : {most more : ℕ} {e : Execution} → most ≤ more → Bounded most e → Bounded more e
-bounded-more {most} {more} {e} h b = record { workers = omega arith; lines = omega arith }
-
--- a steal in vain moves nothing
-vain-bounded : {most : ℕ} {e : Execution} → Bounded most e → Bounded most (failed-steal e)
-unfolding failed-steal
-vain-bounded b = record { workers = b .workers; lines = b .lines }
-
-pub cycle-bounded : {most : ℕ} {e : Execution} → (graph : Graph) → Bounded most e → (w choice : ℕ) → w < length (e .deques) →
-    Bounded most (cycle graph w choice e)
-unfolding work-cycle mug-cycle successful-steal
-cycle-bounded {most} {e} graph b w choice here =
-    cycle-cases graph w choice e
-    (λ c after. Bounded most after)
-    (record {
-      working = λ t rest own.
-          let new : List ℕ = worked-deque graph (one-tick-less t (e .left)) t (deque-of e w) in
-          let left : one-if-filled (deque-of e w) ≡ 1 = ap one-if-filled own in
-          record {
-            workers = omega (arith, length-set (e .deques) w new, b .workers);
-            lines = omega (arith, busy-set (e .deques) w new here, one-at-most new, b .lines);
-          };
-      mugging = λ oldest others own waiting.
-          let empty : one-if-filled (deque-of e w) ≡ 0 = ap one-if-filled own in
-          let more : length (e .muggable) ≡ suc (length others) = ap length waiting in
-          let fewer : length (tail (e .muggable)) ≡ length others = ap (λ (ds : List (List ℕ)). length (tail ds)) waiting in
-          record {
-            workers = omega (arith, length-set (e .deques) w oldest, b .workers);
-            lines = omega (arith, busy-set (e .deques) w oldest here, one-at-most oldest, b .lines);
-          };
-      stealing = λ own none two.
-          let robbed : List (List ℕ) = set (e .deques) choice (left-by-steal (deque-of e choice)) in
-          let same : length (set robbed w (taken-by-steal (deque-of e choice))) ≡ length (e .deques) = simp length-set in
-          let no-muggable : length (e .muggable) ≡ 0 = ap length none in
-          record {
-            workers = omega (arith, b .workers);
-            lines = omega (arith, busy-at-most (set robbed w (taken-by-steal (deque-of e choice))), b .workers);
-          };
-      failing = λ own none few. vain-bounded b;
-    })
-
--- ---- exactly
+-- ---- how many deques are in use
 
 pub cycle-lines : (graph : Graph) (e : Execution) (w choice : ℕ) → w < length (e .deques) →
     LinesAfter e w (cycle-of w choice e) (cycle graph w choice e)
@@ -80,11 +37,11 @@ cycle-lines graph e w choice here =
           let new : List ℕ = worked-deque graph (one-tick-less t (e .left)) t (deque-of e w) in
           let left : one-if-filled (deque-of e w) ≡ 1 = ap one-if-filled own in
           rw (getD-set-same (e .deques) w new [] here) (omega (arith, busy-set (e .deques) w new here, empty-or-filled new));
-      mugging = λ oldest others own waiting some.
+      mugging = λ oldest others own waiting.
           let empty : one-if-filled (deque-of e w) ≡ 0 = ap one-if-filled own in
           let more : length (e .muggable) ≡ suc (length others) = ap length waiting in
           let fewer : length (tail (e .muggable)) ≡ length others = ap (λ (ds : List (List ℕ)). length (tail ds)) waiting in
-          omega (arith, busy-set (e .deques) w oldest here, filled-is-one oldest some);
+          omega (arith, busy-set (e .deques) w oldest here, empty-or-filled oldest);
       stealing = λ own none two.
           let victim : List ℕ = deque-of e choice in
           let robbed : List (List ℕ) = set (e .deques) choice (left-by-steal victim) in
@@ -102,6 +59,37 @@ cycle-lines graph e w choice here =
           );
       failing = λ own none few. refl;
     })
+
+-- ---- .. at most
+
+pub bounded-more : {most more : ℕ} {e : Execution} → most ≤ more → Bounded most e → Bounded more e
+bounded-more {most} {more} {e} h b = record { workers = omega arith; lines = omega arith }
+
+-- a steal in vain moves nothing
+vain-bounded : {most : ℕ} {e : Execution} → Bounded most e → Bounded most (failed-steal e)
+unfolding failed-steal
+vain-bounded b = record { workers = b .workers; lines = b .lines }
+
+-- only a successful steal makes one more, and then no muggable deque waits: each deque in use is a worker's
+pub cycle-bounded : {most : ℕ} {e : Execution} → (graph : Graph) → Bounded most e → (w choice : ℕ) → w < length (e .deques) →
+    Bounded most (cycle graph w choice e)
+unfolding successful-steal
+cycle-bounded {most} {e} graph b w choice here =
+    cycle-cases graph w choice e
+    (λ c after. length (after .deques) ≡ length (e .deques) → LinesAfter e w c after → Bounded most after)
+    (record {
+      working = λ t rest own same lines. record { workers = omega (arith, b .workers); lines = omega (arith, b .lines) };
+      mugging = λ oldest others own waiting same lines. record { workers = omega (arith, b .workers); lines = omega (arith, b .lines) };
+      stealing = λ own none two same lines.
+          let no-muggable : length (e .muggable) ≡ 0 = ap length none in
+          record {
+            workers = omega (arith, b .workers);
+            lines = omega (arith, busy-at-most (successful-steal w choice e .deques), b .workers);
+          };
+      failing = λ own none few same lines. vain-bounded b;
+    })
+    (cycle-allotment graph w choice e)
+    (cycle-lines graph e w choice here)
 
 -- ---- a tick's cycles
 

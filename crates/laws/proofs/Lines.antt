@@ -27,9 +27,9 @@ use Rattle.laws.proofs.Placement.{cycles-placed}
 use Rattle.laws.proofs.Bounds.{bounded-more, cycle-lines, cycles-bounded, tasks-held}
 use Rattle.laws.proofs.Grants.{grant-bounded, first-grant-bounded, no-grant-unstarted}
 use Rattle.laws.proofs.Grants.{grant-lines, grant-of-0-lines, first-grant-lines}
-use Rattle.laws.proofs.Accepted.{grant-accepted, tick-accepted, open-accepted, not-idle, tick-execution}
+use Rattle.laws.proofs.Accepted.{grant-accepted, open-accepted, not-idle, tick-execution}
 use Rattle.laws.proofs.Runs.{history-noted, history-ticked, history-closed, tick-moves, offer-waits, run-snoc, by-moves, step-state}
-use Rattle.laws.proofs.WholeTicks.{one-more}
+use Rattle.laws.proofs.WholeTicks.{one-more, one-each}
 use Rattle.laws.proofs.Histories.{fresh-arranged, arranged, unstarted-cycles}
 use Rattle.laws.proofs.Measures.{measured}
 
@@ -180,21 +180,19 @@ module _ {plan : Plan} (sound : SoundPlan plan) where
 -- ---- inside a tick
 
 module _ (plan : Plan) (s : State) (choices : List ℕ) (answer : call-answer (ticks choices) s ≡ accepted) where
-  one-each : length choices ≡ allotment s
-  one-each = tick-accepted choices s answer .one-each
-
   turn-by-turn : TurnByTurn plan s choices
   unfolding cycles step
   turn-by-turn =
+      let granted = one-each plan s choices answer in
       record {
         before-all = refl;
-        one-more = λ w l. one-more (plan .graph) choices 0 w (s .execution) (omega (arith, one-each)) ∙ rw zero-add refl;
-        after-all = rw (answer, tick-execution plan choices s, take-all (allotment s) choices (omega (arith, one-each))) refl;
+        one-more = λ w l. one-more (plan .graph) choices 0 w (s .execution) (omega (arith, granted)) ∙ rw zero-add refl;
+        after-all = rw (answer, tick-execution plan choices s, take-all (allotment s) choices (omega (arith, granted))) refl;
       }
 
   -- the first w workers are among the granted ones
   first-ones : (w : ℕ) → 0 + length (take w choices) ≤ length (s .execution .deques)
-  first-ones w = omega (arith, length-take w choices, one-each)
+  first-ones w = omega (arith, length-take w choices, one-each plan s choices answer)
 
   bounded-inside : {most : ℕ} → Bounded most (s .execution) → (w : ℕ) → Bounded most (after-workers plan s choices w)
   bounded-inside b w = cycles-bounded (plan .graph) b 0 (take w choices) (first-ones w)

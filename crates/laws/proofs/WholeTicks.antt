@@ -118,7 +118,7 @@ module _ (graph : Graph) where
       rw (turn-finished graph w c e f, one) (vain-turns choices (suc w) (failed-steal e) f ∙ rw zero-add refl)
 
 module _ (plan : Plan) (s : State) (choices : List ℕ) (answer : call-answer (ticks choices) s ≡ accepted) where
-  one-each : length choices ≡ allotment s
+  pub one-each : length choices ≡ allotment s
   one-each = tick-accepted choices s answer .one-each
 
   -- unfinished after some workers' turns, it was so after fewer

@@ -77,8 +77,8 @@ pub record TurnByTurn (plan : Plan) (s : State) (choices : List ℕ) : Type 0 wh
 abbrev pub LinesAfter : (before : Execution) (w : ℕ) → Cycle → (after : Execution) → Type 0
 -- a work tick: one fewer where it leaves its worker's deque empty, and else as many
 LinesAfter before w (works-on t) after = deques-in-use after + cond (is-empty (deque-of after w)) 1 0 ≡ deques-in-use before
--- a mug tick: as many, since an orphan, which is never empty, becomes a line
-LinesAfter before w (mugs-deque d) after = 1 ≤ length d → deques-in-use after ≡ deques-in-use before
+-- a mug tick: as many, since an orphan becomes a line; an empty one, which never waits, would be one fewer
+LinesAfter before w (mugs-deque d) after = deques-in-use after + cond (is-empty d) 1 0 ≡ deques-in-use before
 -- a successful steal: one more, the thief's
 LinesAfter before w (steals-from victim) after = deques-in-use after ≡ suc (deques-in-use before)
 -- a steal in vain: as many
