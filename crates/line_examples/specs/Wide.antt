@@ -54,7 +54,7 @@ pub met-by-orphans : lines-of (run wide-plan (doubled 6 ++ (grants 0 ∷ []))) �
 unfolding Examples.table
 met-by-orphans = refl
 
--- in the tick before, the thief that is the last worker makes the last line
+-- inside the tick that ends with 64 lines: after 63 workers 63, and the last worker's theft makes one more
 pub last-thief : map (λ w. deques-in-use (after-workers wide-plan (run wide-plan (doubled 5 ++ (grants 64 ∷ [])) .state) (choices-of 32) w))
     (63 ∷ 64 ∷ []) ≡ 63 ∷ 64 ∷ []
 unfolding Examples.table

@@ -345,7 +345,7 @@ example-1-offered : List Call
 example-1-offered =
     offers 1 ∷ opens 1 ∷ ticks (0 ∷ []) ∷ ticks (0 ∷ []) ∷ offers 2 ∷ opens 2 ∷ ticks (0 ∷ 0 ∷ []) ∷ ticks (0 ∷ 0 ∷ []) ∷ []
 
--- of the ten tasks worker 0 has 5, 6 and 4, worker 1 has robbed itself in vain, and worker 2 has robbed worker 0 of 2
+-- of the ten tasks worker 0 has 5 and 6, worker 1 has robbed itself in vain, and worker 2 has robbed worker 0 of 4 and 2
 one-in-vain : List Call
 one-in-vain = grants 1 ∷ ticks (0 ∷ []) ∷ grants 2 ∷ ticks (0 ∷ 1 ∷ []) ∷ grants 3 ∷ ticks (0 ∷ 1 ∷ 0 ∷ []) ∷ grants 3 ∷ []
 
@@ -681,7 +681,7 @@ line-rows =
     ∷ row (lines-after easy-seven (two-withdrawn ++ (ticks [] ∷ grants 1 ∷ []))
     ++ lines-after easy-seven (two-withdrawn ++ (ticks [] ∷ grants 1 ∷ ticks (0 ∷ []) ∷ [])))
     (2 ∷ 2 ∷ 2 ∷ 3 ∷ 2 ∷ 2 ∷ 2 ∷ 3 ∷ [])
-    -- met at 3 in the middle of a tick, and neither before nor after it: worker 1 robs worker 2, which then works its last piece
+    -- met at 3 in the middle of a tick, and neither before nor after it: worker 1 robs worker 2 of 2, and worker 2 then works 4, its last
     ∷ row (lines-inside ten one-in-vain (0 ∷ 2 ∷ 0 ∷ [])) (2 ∷ 2 ∷ 3 ∷ 2 ∷ [])
     ∷ row (lines-after ten one-in-vain ++ lines-after ten (one-in-vain ++ (ticks (0 ∷ 2 ∷ 0 ∷ []) ∷ [])))
     (2 ∷ 3 ∷ 3 ∷ 4 ∷ 2 ∷ 3 ∷ 3 ∷ 2 ∷ [])

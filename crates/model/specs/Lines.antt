@@ -92,7 +92,7 @@ pub record LinesMove (graph : Graph) : Type 0 where
   pub by-grant : (g : ℕ) (s : State) → s .started ≡ true → deques-in-use (grant g s .execution) ≡ deques-in-use (s .execution)
   -- .. of 0, before the first one above 0 too
   pub by-grant-of-0 : (s : State) → deques-in-use (grant 0 s .execution) ≡ deques-in-use (s .execution)
-  -- the first one above 0: one more, that of piece 0
+  -- the first one above 0, before which there is no worker: one more, that of piece 0
   pub by-first-grant : (g : ℕ) (s : State) → s .started ≡ false → s .execution .deques ≡ [] → 1 ≤ g →
       deques-in-use (grant g s .execution) ≡ suc (deques-in-use (s .execution))
 
