@@ -24,6 +24,7 @@ occurrences_append t (x ∷ xs) ys = omega (arith, occurrences_append t xs ys)
 
 pub occurs : (t : ℕ) (xs : List ℕ) → Memᴰ t xs → 1 ≤ occurrences t xs
 unfolding occurrences
+occurs t [] x' = elim x' [ ]
 occurs t (x ∷ xs) (Memᴰ.head e) = rw (eq-eqb t x e) (omega arith)
 occurs t (x ∷ xs) (Memᴰ.tail m) = omega (arith, occurs t xs m)
 

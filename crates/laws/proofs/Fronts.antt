@@ -31,6 +31,7 @@ use Rattle.laws.proofs.Runs.{run_keeps}
 -- ---- a front by its place
 
 place_in : (d : List ℕ) (ds : List (List ℕ)) → Memᴰ d ds → (v : ℕ) × (v < length ds) × (get_or ds v [] ≡ d)
+place_in d [] x' = elim x' [ ]
 place_in d (x ∷ ds) (Memᴰ.head e) = (zero, omega arith, sym e)
 place_in d (x ∷ ds) (Memᴰ.tail m) = let r = place_in d ds m in (suc r.0, omega (arith, r.1), r.2)
 
@@ -46,6 +47,7 @@ not_empty : {t : ℕ} {rest : List ℕ} → t ∷ rest ≡ [] → ⊥
 not_empty {t} {rest} e = let z : suc (length rest) ≡ 0 = ap length e in omega arith
 
 mapped : (f : ℕ → List ℕ) (xs : List ℕ) (x : ℕ) → Memᴰ x xs → Memᴰ (f x) (map f xs)
+mapped f [] x x3 = elim x3 [ ]
 mapped f (y ∷ xs) x (Memᴰ.head e) = Memᴰ.head (ap f e)
 mapped f (y ∷ xs) x (Memᴰ.tail m) = Memᴰ.tail (mapped f xs x m)
 

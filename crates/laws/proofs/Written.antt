@@ -44,6 +44,9 @@ sub_128 n = omega arith
 one_read : (call : Call) (others : List ℕ) (most : ℕ) → Sayable call →
     entries_up_to (suc most) (entry_bytes call ++ others) ≡ entry_then call (entries_up_to most others)
 unfolding entries_up_to entry_bytes
+one_read (offers _) others most small = elim small [ ]
+one_read (opens _) others most small = elim small [ ]
+one_read withdraws others most small = elim small [ ]
 one_read (grants g) others most small = rw (lt-ltb g 128 small, le-leb 0 (length others) (omega arith)) refl
 one_read (ticks choices) others most sayable =
     rw (

@@ -17,6 +17,7 @@ use Rattle.lists.proofs.Tests.{true_is_not_false, and_left, and_right, both}
 -- ---- places in a list
 
 pub place_of : (t : ℕ) (xs : List ℕ) → Memᴰ t xs → (i : ℕ) × (i < length xs) × (get_or xs i 0 ≡ t)
+place_of t [] x' = elim x' [ ]
 place_of t (x ∷ xs) (Memᴰ.head e) = (zero, omega arith, sym e)
 place_of t (x ∷ xs) (Memᴰ.tail m) = let r = place_of t xs m in (suc r.0, omega (arith, r.1), r.2)
 
@@ -38,6 +39,7 @@ is_member t (x ∷ xs) h = go (eqb t x) refl (is_member t xs) h
 
 pub member_is : (t : ℕ) (xs : List ℕ) → Memᴰ t xs → member t xs ≡ true
 unfolding member
+member_is t [] x' = elim x' [ ]
 member_is t (x ∷ xs) (Memᴰ.head e) = rw (eq-eqb t x e) refl
 member_is t (x ∷ xs) (Memᴰ.tail m) = go (eqb t x) (member_is t xs m)
   where
@@ -48,6 +50,7 @@ member_is t (x ∷ xs) (Memᴰ.tail m) = go (eqb t x) (member_is t xs m)
 module _ {A : Type 0} (test : A → Bool) where
   pub every_at : (xs : List A) → every test xs ≡ true → (x : A) → Memᴰ x xs → test x ≡ true
   unfolding every
+  every_at [] h x x4 = elim x4 [ ]
   every_at (y ∷ xs) h x (Memᴰ.head e) = rw e (and_left (test y) (every test xs) h)
   every_at (y ∷ xs) h x (Memᴰ.tail m) = every_at xs (and_right (test y) (every test xs) h) x m
 
@@ -110,6 +113,7 @@ module _ {A : Type 0} (test : A → Bool) where
 
   pub kept_if : (xs : List A) (x : A) → Memᴰ x xs → test x ≡ true → Memᴰ x (keep test xs)
   unfolding keep
+  kept_if [] x x4 h = elim x4 [ ]
   kept_if (y ∷ xs) x (Memᴰ.head q) h = rw (ap test (sym q) ∙ h) (Memᴰ.head q)
   kept_if (y ∷ xs) x (Memᴰ.tail m) h = go (test y) (kept_if xs x m h)
     where
