@@ -19,7 +19,7 @@ pub fn wide(x: u16) -> usize
 // The deque at a place.
 pub fn deque_at(memory: &Memory, place: usize) -> Deque
     requires { place < 128 }
-    ensures { result ≡ ends_at (parts_before memory).ends place }
+    ensures { result ≡ ends_at (parts memory.now).ends place }
 {
     let front_at = memory::ENDS + 2 * place;
     let size_at = memory::ENDS + (2 * place + 1);
@@ -52,7 +52,7 @@ pub fn hand_over(memory: &mut Memory, from: usize, to: usize)
 // The task that so many links lead to.
 pub fn ahead(memory: &Memory, front: u16, steps: u16) -> u16
     requires { Reachable (parts memory.now).next front steps }
-    ensures { result ≡ link_after (parts_before memory).next front steps }
+    ensures { result ≡ link_after (parts memory.now).next front steps }
 {
     let mut task = front;
     let mut left = steps;

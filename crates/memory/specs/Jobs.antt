@@ -1,6 +1,6 @@
 -- The plan and the state that a job shows. The record by value, lent memory and the program all hold a job: its memory and its words.
 use Rattle.std.specs.Prelude.{Bool, true, false, List, ℕ}
-use Rattle.std.specs.Borrow.{Bor}
+use Rattle.std.specs.Borrow.{MutBor}
 use denote.Triple.Both.{Both}
 use Rattle.model.specs.Plan.{Plan}
 use Rattle.model.specs.Machine.{State, Quantum, idle, opened}
@@ -15,14 +15,14 @@ abbrev pub lent : List ℕ → List ℕ → Job
 lent memory words = record { memory = memory; words = words }
 
 -- the job that two references hold
-abbrev pub job : Bor (List ℕ) → Bor (List ℕ) → Job
+abbrev pub job : MutBor (List ℕ) → MutBor (List ℕ) → Job
 job memory words = lent memory.now words.now
 
 -- .. and that two references to be written through hold when a function is called, and when it returns
-abbrev pub job_before : Both (Bor (List ℕ)) (Bor (List ℕ)) → Both (Bor (List ℕ)) (Bor (List ℕ)) → Job
+abbrev pub job_before : Both (MutBor (List ℕ)) (MutBor (List ℕ)) → Both (MutBor (List ℕ)) (MutBor (List ℕ)) → Job
 job_before memory words = job memory.entry words.entry
 
-abbrev pub job_after : Both (Bor (List ℕ)) (Bor (List ℕ)) → Both (Bor (List ℕ)) (Bor (List ℕ)) → Job
+abbrev pub job_after : Both (MutBor (List ℕ)) (MutBor (List ℕ)) → Both (MutBor (List ℕ)) (MutBor (List ℕ)) → Job
 job_after memory words = job memory.exit words.exit
 
 abbrev pub job_parts : Job → Parts

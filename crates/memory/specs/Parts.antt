@@ -1,6 +1,6 @@
 -- The parts of a job's memory: one list holds them all, each in a region of its own.
 use Rattle.std.specs.Prelude.{◌≡◌, List, ℕ, ◌/◌, ◌%◌, get_or, take, drop}
-use Rattle.std.specs.Borrow.{Bor}
+use Rattle.std.specs.Borrow.{MutBor}
 use denote.Triple.Both.{Both}
 
 -- so many elements from an offset on
@@ -27,10 +27,10 @@ parts memory =
     }
 
 -- the parts of a memory that a reference holds when a function is called, and when it returns
-abbrev pub parts_before : Both (Bor (List ℕ)) (Bor (List ℕ)) → Parts
+abbrev pub parts_before : Both (MutBor (List ℕ)) (MutBor (List ℕ)) → Parts
 parts_before memory = parts memory.entry.now
 
-abbrev pub parts_after : Both (Bor (List ℕ)) (Bor (List ℕ)) → Parts
+abbrev pub parts_after : Both (MutBor (List ℕ)) (MutBor (List ℕ)) → Parts
 parts_after memory = parts memory.exit.now
 
 -- so many elements have all parts

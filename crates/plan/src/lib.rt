@@ -99,7 +99,7 @@ fn read_form(bytes: &[u8], form: usize, n: usize, memory: &mut Memory) -> PlanAn
 // Question 9 over the counts: each of the tasks from 1 up has one or two predecessors.
 fn all_preceded(n: usize, memory: &Memory) -> bool
     requires { (1 ≤ n) × (n ≤ 1024) }
-    ensures { result ≡ every (one_or_two (parts_before memory).pending) (drop 1 (below n)) }
+    ensures { result ≡ every (one_or_two (parts memory.now).pending) (drop 1 (below n)) }
 {
     let mut all = true;
     let mut t = 1;
@@ -114,7 +114,7 @@ fn all_preceded(n: usize, memory: &Memory) -> bool
 // Question 10 over the first successors: each task but the last has one.
 fn one_exit(n: usize, memory: &Memory) -> bool
     requires { (1 ≤ n) × (n ≤ 1024) }
-    ensures { result ≡ every (followed (parts_before memory).first) (below (n - 1)) }
+    ensures { result ≡ every (followed (parts memory.now).first) (below (n - 1)) }
 {
     let mut all = true;
     let mut t = 0;

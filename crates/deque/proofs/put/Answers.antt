@@ -1,0 +1,8 @@
+-- `deque::put` meets its contract.
+use borrow.Author.Rules.{rules}
+use Rattle.memory.proofs.Regions.{put_stored}
+use Rattle.deque.proofs.put.Goals as goal
+
+pub returns : goal.returns
+returns c =
+    put_stored _ _ _ c.requires
