@@ -11,7 +11,7 @@ use memory::Words;
 const QUANTUM_LIMIT: u64 = 4096;
 
 // One case for each number of the paper, which answer_of gives.
-#[derive(Drop)]
+#[derive(Clone, Copy)]
 pub enum CallAnswer {
     Accepted,
     Finished,

@@ -8,7 +8,7 @@ ghost use Rattle.counters.specs.Line.{numbers_of, WritesLine};
 use status::Status;
 
 // The ten numbers of a counters line. The types' widths alone keep the line to 127 bytes.
-#[derive(Drop)]
+#[derive(Clone, Copy)]
 pub struct Counters {
     pub status: Status,
     pub worked: u16,
@@ -23,7 +23,7 @@ pub struct Counters {
 }
 
 // What writing a line gives. specs/Line.antt gives document 01's number and the line's length for each case.
-#[derive(Drop)]
+#[derive(Clone, Copy)]
 pub enum LineAnswer {
     // The line stands at the buffer's start: how many bytes it has, byte 10 included.
     Written(usize),

@@ -8,7 +8,7 @@ ghost use Rattle.memory.specs.Words.{word, with_more, works_word, mugs_word, ste
 use memory::Words;
 
 // Work ticks.
-#[derive(Drop)]
+#[derive(Clone, Copy)]
 pub struct WorkCycles(u64);
 
 impl WorkCycles {
@@ -42,7 +42,7 @@ impl WorkCycles {
 }
 
 // Mug ticks.
-#[derive(Drop)]
+#[derive(Clone, Copy)]
 pub struct MugCycles(u64);
 
 impl MugCycles {
@@ -76,7 +76,7 @@ impl MugCycles {
 }
 
 // Steal ticks, successful or not.
-#[derive(Drop)]
+#[derive(Clone, Copy)]
 pub struct StealCycles(u64);
 
 impl StealCycles {

@@ -7,7 +7,7 @@ ghost use Rattle.label.specs.Wording.{IsWording};
 ghost use Rattle.label.specs.Ends.{ByteCounted, Passed, LineEnd};
 
 // What looking for a status's line gives. specs/Found.antt gives document 01's number and stretch for each case.
-#[derive(Drop)]
+#[derive(Clone, Copy)]
 pub enum Found {
     // The line is there: where it starts, and how many bytes it has without its byte 10.
     At(usize, usize),

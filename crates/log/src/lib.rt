@@ -11,7 +11,7 @@ use log_reader::Entry;
 use memory::{Memory, Words};
 
 // The log's own answer, whose number log_answer_of gives: every entry was whole, or a broken one ended it (18).
-#[derive(Drop)]
+#[derive(Clone, Copy)]
 pub enum LogAnswer {
     Whole,
     BrokenEntry,

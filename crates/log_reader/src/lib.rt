@@ -4,7 +4,7 @@ ghost use Rattle.log_reader.specs.Reading.{entry_of, past, started, entry_here, 
 
 // What stands at a place of a log: a grant's count; a tick's choices, as where they start and how many they are; an entry that is not
 // whole; or nothing more.
-#[derive(Drop)]
+#[derive(Clone, Copy)]
 pub enum Entry {
     Grant(u8),
     Tick(usize, usize),

@@ -12,7 +12,7 @@ use memory::Memory;
 use plan_fields::{Header, PlanAnswer, TaskFields};
 
 // The answer, and the plan's numbers where it is Accepted; zeros beside a refusal. R is in tenths or not.
-#[derive(Drop)]
+#[derive(Clone, Copy)]
 pub struct Heading {
     pub answer: PlanAnswer,
     pub in_tenths: bool,

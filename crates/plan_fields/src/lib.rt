@@ -7,7 +7,7 @@ ghost use Rattle.plan_fields.specs.Fields.{HeaderOf, five_bytes, TaskOf, three_b
 ghost use Rattle.plan_fields.specs.Fields.{field_questions, pair_questions, asked_of_task};
 
 // One case for each number of the paper, which answer_of gives.
-#[derive(Drop)]
+#[derive(Clone, Copy)]
 pub enum PlanAnswer {
     Accepted,
     Short,
@@ -35,7 +35,7 @@ pub const TASK_BYTES: usize = 3;
 pub const LASTING_TASK_BYTES: usize = 4;
 
 // The header's fields, with the number of tasks itself and not one less; and whether R is in tenths.
-#[derive(Drop)]
+#[derive(Clone, Copy)]
 pub struct Header {
     pub form: usize,
     pub in_tenths: bool,
@@ -46,7 +46,7 @@ pub struct Header {
 }
 
 // A task's fields, and its ticks.
-#[derive(Drop)]
+#[derive(Clone, Copy)]
 pub struct TaskFields {
     pub count: usize,
     pub first: usize,

@@ -7,7 +7,7 @@ ghost use Rattle.quantum.specs.Closing.{wish_of, Desired, Closable, WasEfficient
 pub mod rows; // rows.rt: the rows of whole parts
 
 // What a job wants: the power k, and the wanted count that is R to this power, or its whole part.
-#[derive(Drop)]
+#[derive(Clone, Copy)]
 pub struct Wish {
     pub power: u8,
     pub desire: u8,

@@ -2,7 +2,7 @@
 ghost use Rattle.std.specs.Prelude.{◌≡◌};
 ghost use Rattle.status.specs.Number.{status_number};
 
-#[derive(Drop)]
+#[derive(Clone, Copy)]
 pub enum Status {
     // Nothing above 0 was ever granted.
     Fresh,

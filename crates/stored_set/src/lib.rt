@@ -5,7 +5,7 @@ ghost use Rattle.model.specs.Program.{program};
 ghost use Rattle.stored_set.specs.Stored.{same_bytes, placed_of, stored, tally_of, verdict_of};
 
 // What stands at a place of a set: a case, as the sizes of its input and of what is expected; one that is cut off; or nothing more.
-#[derive(Drop)]
+#[derive(Clone, Copy)]
 pub enum Placed {
     Whole(usize, usize),
     Cut,
@@ -13,7 +13,7 @@ pub enum Placed {
 }
 
 // What running a set counts: its cases, those that are as said, and whether nothing is left over.
-#[derive(Drop)]
+#[derive(Clone, Copy)]
 pub struct SetTally {
     pub cases: u64,
     pub same: u64,
@@ -21,7 +21,7 @@ pub struct SetTally {
 }
 
 // What a tally says of the program.
-#[derive(Drop)]
+#[derive(Clone, Copy)]
 pub enum Verdict {
     AllAsSaid,
     SomeOther,

@@ -7,7 +7,7 @@ use memory::Words;
 
 // How many of a tick's cycles so far were work cycles and how many mug cycles; the others are steal cycles. And how many tasks the work
 // cycles completed.
-#[derive(Drop)]
+#[derive(Clone, Copy)]
 pub struct Tally {
     pub works: WorkCycles,
     pub mugs: MugCycles,

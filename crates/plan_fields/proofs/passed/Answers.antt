@@ -12,8 +12,7 @@ use Rattle.plan_fields.specs.declared.PlanAnswer.TheVariants.{NoQuantum, WrongLe
 use Rattle.plan_fields.specs.declared.PlanAnswer.TheVariants.{LooseEnd, NoTicks}
 use Rattle.plan_fields.specs.Answers.{answer_of, passes}
 use Rattle.plan_fields.specs.contracts.PlanAnswer.{the_type}
-use Rattle.plan_fields.proofs.passed.Statement.{statement}
-use Rattle.plan_fields.proofs.passed.Tie as tie
+use Rattle.plan_fields.proofs.passed.Goals as goal
 
 -- the numbers of the cases after the first
 refusals : List ℕ
@@ -34,9 +33,7 @@ refusal BadPredecessors k = refl
 refusal LooseEnd k = refl
 refusal NoTicks k = refl
 
-returns-2 : tie.Need-returns-2
+pub returns-in_default : goal.returns-in_default
 unfolding refusals
-returns-2 c = refusal c.before.args.answer c.match.keys2
-
-pub passed-spec : {M : Type 1} → statement M
-passed-spec = tie.close (tie.spec (λ c. search rules) (λ c. search rules) returns-2)
+returns-in_default c =
+    refusal c.args.answer c.in_default.in_default-own.keys2

@@ -12,8 +12,7 @@ use borrow.Author.Tests.{eqb-true}
 use Rattle.model.specs.Tests.{below, every}
 use Rattle.model.specs.Machine.{whole_parts}
 use Rattle.lists.proofs.Lists.{every_at, below_has}
-use Rattle.quantum.proofs.whole_part.Statement.{statement}
-use Rattle.quantum.proofs.whole_part.Tie as tie
+use Rattle.quantum.proofs.whole_part.Goals as goal
 
 rows : List (List ℕ)
 rows =
@@ -42,11 +41,7 @@ rule i k hi hk =
     let row_right = every_at (λ i. every (right i) (below 23)) (below 9) all_right i (below_has 9 i hi) in
     eqb-true _ _ (every_at (right i) (below 23) row_right k (below_has 23 k hk))
 
-returns : tie.Need-returns
+pub returns : goal.returns
 unfolding rows
-returns c = rule (c.before.args.tenths - 12) c.before.args.power (omega arith) (omega arith)
-
-pub whole-part-spec : {M : Type 1} → statement M
-whole-part-spec =
-    tie.close
-    (tie.spec (λ c. search rules) (λ c. search rules) (λ c. search rules) (λ c. search rules) (λ c. search rules) returns)
+returns c =
+    rule (c.args.tenths - 12) c.args.power (omega arith) (omega arith)

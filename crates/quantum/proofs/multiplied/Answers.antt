@@ -1,0 +1,19 @@
+-- `quantum::multiplied` meets its contract: below the top desire there is room for R times the desire, and at the top there is none.
+use borrow.Author.Rules.{rules}
+use native.Mathlib.Omega.{arith}
+use native.Mathlib.Numerals.{add-one}
+use Rattle.quantum.proofs.Desires.{room, top_stays, multiplies}
+use Rattle.quantum.proofs.multiplied.Goals as goal
+
+pub returns-then-wish-top : goal.returns-then-wish-top
+returns-then-wish-top c =
+    top_stays c.requires c.top_desire-top.ensures c.if-wish-top.true
+
+pub overflow_mul-result : goal.overflow_mul-result
+overflow_mul-result c =
+    let few = room c.requires c.top_desire-top.ensures c.if-wish-top.false in
+    omega arith
+
+pub returns : goal.returns
+returns c =
+    multiplies c.requires c.top_desire-top.ensures _ (add-one _) c.if-wish-top.false

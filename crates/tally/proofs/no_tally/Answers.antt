@@ -1,0 +1,8 @@
+-- `tally::no_tally` meets its contract.
+use mathlib.Core.Path.{refl}
+use borrow.Author.Rules.{rules}
+use Rattle.tally.proofs.no_tally.Goals as goal
+
+pub returns : goal.returns
+returns c =
+    rw (c.none.ensures, c.none-2.ensures) refl
