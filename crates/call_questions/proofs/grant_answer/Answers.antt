@@ -1,0 +1,42 @@
+-- `call_questions::grant_answer` meets its contract: on each way out the tests that were made tell the first "no".
+-- The needs that are only searched for are places below 21 and numbers that fit.
+-- Assumes nothing.
+use mathlib.Core.Path.{◌≡◌, refl}
+use mathlib.Core.Bool.{Bool, true, false, cond}
+use Prim.Native.Nat.{ℕ}
+use native.Mathlib.Omega.{arith}
+use borrow.Author.Rules.{rules}
+use borrow.Author.Tests.{lt-ltb, le-ltb, le-leb, lt-leb, eq-eqb, ne_eqb}
+use lib.Dec.{leb, eqb}
+use Rattle.model.specs.Questions.{accepted, refused, first_no}
+use Rattle.model.specs.Machine.{quantum_limit}
+use Rattle.memory.specs.Words.{word, note_word}
+use Rattle.call_questions.specs.Asked.{grant_asked}
+use Rattle.call_questions.proofs.grant_answer.Goals as goal
+
+pub returns-then-words : goal.returns-then-words
+unfolding grant_asked first_no
+returns-then-words c =
+    rw (eq-eqb _ _ c.if-words.true)
+
+pub returns-then-words-ne0 : goal.returns-then-words-ne0
+unfolding grant_asked first_no
+returns-then-words-ne0 c =
+    rw (ne_eqb _ _ c.if-words.false, ne_eqb _ 0 c.if-words-ne0.true)
+
+pub returns-then-words-ge-QUANTUM_LIMIT : goal.returns-then-words-ge-QUANTUM_LIMIT
+unfolding grant_asked first_no
+returns-then-words-ge-QUANTUM_LIMIT c =
+    rw (ne_eqb _ _ c.if-words.false, eq-eqb _ 0 c.if-words-ne0.false, le-ltb (word_at c 17) quantum_limit (omega arith))
+
+pub returns-then-words-ne0-2 : goal.returns-then-words-ne0-2
+returns-then-words-ne0-2 c =
+    by-25 c false _ (ne_eqb _ 0 c.if-words-ne0-2.true) refl
+
+pub returns-then-g-words : goal.returns-then-g-words
+returns-then-g-words c =
+    by-25 c true false (eq-eqb _ 0 c.if-words-ne0-2.false) (lt-leb _ _ c.if-g-words.true)
+
+pub returns : goal.returns
+returns c =
+    by-25 c true true (eq-eqb _ 0 c.if-words-ne0-2.false) (le-leb _ _ c.if-g-words.false)

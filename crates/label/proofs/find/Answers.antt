@@ -1,0 +1,35 @@
+-- `label::find` meets its contract. The loop's invariant is `Sought`, of the end of the open line: the line that is sought is line
+-- `left` of those ahead. The measure is what is left of the sheet. Assumes nothing.
+use mathlib.Core.Path.{◌≡◌}
+use Prim.Native.Nat.{◌-◌, ◌<◌}
+use native.Mathlib.Omega.{arith}
+use lib.ListN.{length, get_or}
+use Rattle.label.proofs.Search.{Sought, at_first, past_bytes, past_line, here, here_answer, missing, missing_answer}
+use Rattle.label.proofs.find.Goals as goal
+
+pub loop-end-init : goal.loop-end-init
+loop-end-init c =
+    let found = c.line_end-end.ensures in
+    (past_bytes (at_first c.args.sheet.now c.args.status) found.passed, found.ended)
+
+pub returns-then-left-eq0 : goal.returns-then-left-eq0
+returns-then-left-eq0 c =
+    let sought = c.loop-end.invariant.0 in
+    let inside = c.loop-end-test.true in
+    let ten = c.loop-end.invariant.1 inside in
+    (here_answer sought inside ten (omega arith), here sought inside ten (omega arith))
+
+pub loop-end-smaller : goal.loop-end-smaller
+loop-end-smaller c =
+    omega (arith, c.loop-end-test.true, c.line_end-end-in-loop-end.ensures.passed.forward)
+
+pub loop-end-preserved : goal.loop-end-preserved
+loop-end-preserved c =
+    let inside = c.loop-end-test.true in
+    let found = c.line_end-end-in-loop-end.ensures in
+    let next = past_line c.loop-end.invariant.0 inside (c.loop-end.invariant.1 inside) c.if-left-eq0.false in
+    (past_bytes next found.passed, found.ended)
+
+pub returns : goal.returns
+returns c =
+    (missing_answer c.loop-end.invariant.0 c.loop-end-test.false, missing c.loop-end.invariant.0 c.loop-end-test.false)
