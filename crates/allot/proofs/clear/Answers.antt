@@ -19,4 +19,4 @@ loop-worker-preserved c =
 pub returns : goal.returns
 returns c =
     let at = c.loop-worker.invariant in
-    (clearing_done at.0 c.requires.1 c.loop-worker-test.false, at.1)
+    record { cleared = clearing_done at.0 c.requires.1 c.loop-worker-test.false; rest = at.1 }

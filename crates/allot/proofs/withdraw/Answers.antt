@@ -16,11 +16,11 @@ join-joined-requires c =
 pub loop-left-preserved : goal.loop-left-preserved
 loop-left-preserved c =
     let at = c.loop-left.invariant in (
-      withdrawing_more c.requires at.0 c.loop-left-test.true c.join-joined.ensures.0,
-      moved_then at.1 c.join-joined.ensures.1,
+      withdrawing_more c.requires at.0 c.loop-left-test.true c.join-joined.ensures.joined,
+      moved_then at.1 c.join-joined.ensures.rest,
     )
 
 pub returns : goal.returns
 returns c =
     let at = c.loop-left.invariant in
-    (withdrawing_done c.requires at.0 c.loop-left-test.false, at.1)
+    record { joined = withdrawing_done c.requires at.0 c.loop-left-test.false; rest = at.1 }

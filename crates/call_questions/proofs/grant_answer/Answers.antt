@@ -27,16 +27,36 @@ returns-then-words-ne0 c =
 pub returns-then-words-ge-QUANTUM_LIMIT : goal.returns-then-words-ge-QUANTUM_LIMIT
 unfolding grant_asked first_no
 returns-then-words-ge-QUANTUM_LIMIT c =
-    rw (ne_eqb _ _ c.if-words.false, eq-eqb _ 0 c.if-words-ne0.false, le-ltb (word_at c 17) quantum_limit (omega arith))
+    rw (ne_eqb _ _ c.if-words.false, eq-eqb _ 0 c.if-words-ne0.false, le-ltb ((word c.args.words.now) 17) quantum_limit (omega arith))
 
 pub returns-then-words-ne0-2 : goal.returns-then-words-ne0-2
+unfolding grant_asked first_no
 returns-then-words-ne0-2 c =
-    by-25 c false _ (ne_eqb _ 0 c.if-words-ne0-2.true) refl
+    rw (
+      ne_eqb _ _ c.if-words.false,
+      eq-eqb _ 0 c.if-words-ne0.false,
+      lt-ltb (word c.args.words.now 17) quantum_limit (omega arith),
+      ne_eqb _ 0 c.if-words-ne0-2.true,
+    )
 
 pub returns-then-g-words : goal.returns-then-g-words
+unfolding grant_asked first_no
 returns-then-g-words c =
-    by-25 c true false (eq-eqb _ 0 c.if-words-ne0-2.false) (lt-leb _ _ c.if-g-words.true)
+    rw (
+      ne_eqb _ _ c.if-words.false,
+      eq-eqb _ 0 c.if-words-ne0.false,
+      lt-ltb (word c.args.words.now 17) quantum_limit (omega arith),
+      eq-eqb _ 0 c.if-words-ne0-2.false,
+      lt-leb _ _ c.if-g-words.true,
+    )
 
 pub returns : goal.returns
+unfolding grant_asked first_no
 returns c =
-    by-25 c true true (eq-eqb _ 0 c.if-words-ne0-2.false) (le-leb _ _ c.if-g-words.false)
+    rw (
+      ne_eqb _ _ c.if-words.false,
+      eq-eqb _ 0 c.if-words-ne0.false,
+      lt-ltb (word c.args.words.now 17) quantum_limit (omega arith),
+      eq-eqb _ 0 c.if-words-ne0-2.false,
+      le-leb _ _ c.if-g-words.false,
+    )

@@ -18,9 +18,9 @@ returns-then-note-eq0 c =
 pub returns-then-c-note : goal.returns-then-c-note
 unfolding open_asked first_no
 returns-then-c-note c =
-    rw (ne_eqb _ 0 c.if-note-eq0.false, le-ltb (opened c) (note c) (omega (arith, c.if-c-note.true)))
+    rw (ne_eqb _ 0 c.if-note-eq0.false, le-ltb (c.args.c) (word c.args.words.now note_word) (omega (arith, c.if-c-note.true)))
 
 pub returns : goal.returns
 unfolding open_asked first_no
 returns c =
-    rw (ne_eqb _ 0 c.if-note-eq0.false, lt-ltb (opened c) (note c) (omega (arith, c.if-c-note.false)))
+    rw (ne_eqb _ 0 c.if-note-eq0.false, lt-ltb (c.args.c) (word c.args.words.now note_word) (omega (arith, c.if-c-note.false)))

@@ -25,9 +25,21 @@ returns-then-choices-workers c =
     rw (ne_eqb _ _ c.if-words.false, ne_eqb _ 0 c.if-words-eq0.false, ne_eqb _ _ c.if-choices-workers.true)
 
 pub returns-then-all_below : goal.returns-then-all_below
+unfolding tick_asked first_no
 returns-then-all_below c =
-    by-17 c true c.if-all_below.true
+    rw (
+      ne_eqb _ _ c.if-words.false,
+      ne_eqb _ 0 c.if-words-eq0.false,
+      eq-eqb _ _ c.if-choices-workers.false,
+      sym c.all_below.ensures ∙ c.if-all_below.true,
+    )
 
 pub returns : goal.returns
+unfolding tick_asked first_no
 returns c =
-    by-17 c false c.if-all_below.false
+    rw (
+      ne_eqb _ _ c.if-words.false,
+      ne_eqb _ 0 c.if-words-eq0.false,
+      eq-eqb _ _ c.if-choices-workers.false,
+      sym c.all_below.ensures ∙ c.if-all_below.false,
+    )
