@@ -1,5 +1,4 @@
 -- Entries: the entry at a place is the first of model's entries from there on. Readers: reading on from reader to reader gives model's
--- entries. Held: what a log and a reader own.
+-- entries.
 pub mod Entries
 pub mod Readers
-pub mod Held

@@ -1,4 +1,6 @@
 // The day log, read entry after entry from the same lent bytes. `specs/Reading.antt` says what is read.
+#![tactic(auto)]
+
 ghost use Rattle.std.specs.Prelude.{◌≡◌};
 ghost use Rattle.log_reader.specs.Reading.{entry_of, past, started, entry_here, passed};
 

@@ -1,11 +1,8 @@
 -- `log_reader::entry_at` meets its contract: at each `return` the tests that led there say which case of `entry_of` holds.
 -- Assumes nothing.
-use borrow.Author.Rules.{rules}
 use native.Mathlib.Omega.{arith}
 use borrow.Author.Tests.{le-ltb, lt-ltb, le-leb, lt-leb}
 use Rattle.log_reader.specs.Reading.{entry_of}
-use Rattle.log_reader.proofs.entry_at.Reads as reads
-use Rattle.log_reader.proofs.entry_at.Lts as lts
 use Rattle.log_reader.proofs.entry_at.Goals as goal
 
 pub returns-then-at-log : goal.returns-then-at-log
@@ -20,7 +17,7 @@ returns-then-byte-lt128 c =
 
 pub overflow_cast-count : goal.overflow_cast-count
 overflow_cast-count c =
-    omega (arith, c.shared_slice_known-1.given c.args.at)
+    omega arith
 
 pub returns-then-count-log : goal.returns-then-count-log
 unfolding entry_of
