@@ -19,8 +19,8 @@ use Rattle.plan_fields.specs.declared.Header.{Header}
 use Rattle.plan.specs.declared.Heading.{Heading}
 use Rattle.plan_fields.specs.Answers.{answer_of, passes}
 use Rattle.plan_fields.specs.Fields.{five_bytes, field_questions, HeaderOf}
-use Rattle.plan.specs.Contracts.{HeaderRead, Held, Due, TasksRead, one_or_two, followed}
-use Rattle.plan.specs.Contracts.{HeadingRead, no_memory}
+use Rattle.plan.specs.Reads.{HeaderRead, Held, Due, TasksRead, one_or_two, followed}
+use Rattle.plan.specs.Reads.{HeadingRead, no_memory}
 use Rattle.plan.specs.Promise.{no_heading, Holds, RightHeading}
 use Rattle.lists.proofs.Questions.{two_accepted, first_refused, second_refused}
 use Rattle.plan_fields.proofs.Answers.{passes_is, passes_not, stops}

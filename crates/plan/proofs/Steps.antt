@@ -14,8 +14,8 @@ use Rattle.model.specs.Plan.{used_fields, successor_fields}
 use Rattle.model.specs.Plan.{task_questions}
 use Rattle.memory.specs.Parts.{Parts, with_pending}
 use Rattle.plan_fields.specs.Fields.{five_bytes, pair_questions, asked_of_task, TaskOf}
-use Rattle.plan.specs.Contracts.{noted, counted, fresh_span, Held, TaskRead}
-use Rattle.plan.specs.Contracts.{TasksRead}
+use Rattle.plan.specs.Reads.{noted, counted, fresh_span, Held, TaskRead}
+use Rattle.plan.specs.Reads.{TasksRead}
 use Rattle.plan_fields.specs.declared.TaskFields.{TaskFields}
 use Rattle.plan_fields.specs.declared.PlanAnswer.{PlanAnswer}
 use Rattle.plan_fields.specs.declared.PlanAnswer.TheVariants.{Accepted}

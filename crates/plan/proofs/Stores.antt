@@ -17,7 +17,7 @@ use Rattle.model.specs.Plan.{used_fields}
 use Rattle.memory.specs.Parts.{Parts, region, parts, with_pending, with_spans}
 use Rattle.memory.proofs.Regions.{store_inside, store_above, store_below, store_pending, store_spans, first_at, pending_at}
 use Rattle.plan.specs.Headings.{Ends}
-use Rattle.plan.specs.Contracts.{noted, one_or_two, followed}
+use Rattle.plan.specs.Reads.{noted, one_or_two, followed}
 use Rattle.lists.proofs.Lists.{stored_most}
 use Rattle.lists.proofs.Ranges.{every_below, every_from_one}
 use Rattle.plan.proofs.Facts.{FieldFacts, TargetFacts}

@@ -25,7 +25,7 @@ use Rattle.memory.proofs.Regions.{region_at, region_length}
 use Rattle.lists.proofs.Tables.{table_same}
 use Rattle.plan.specs.declared.Heading.{Heading}
 use Rattle.plan.specs.Headings.{plan_view, Ends}
-use Rattle.plan.specs.Contracts.{counted, Held, one_or_two, followed, no_memory}
+use Rattle.plan.specs.Reads.{counted, Held, one_or_two, followed, no_memory}
 use Rattle.plan.specs.Promise.{Holds}
 use Rattle.lists.proofs.Ranges.{from_one_mem, every_cong, every_below, keep_cong, keep_some}
 use Rattle.lists.proofs.Questions.{accepted_at}

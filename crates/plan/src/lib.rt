@@ -4,8 +4,8 @@ ghost use Rattle.model.specs.Tests.{below, every};
 ghost use Rattle.memory.specs.Parts.{parts, parts_before, parts_after, with_pending};
 ghost use Rattle.model.specs.Plan.{form_field, form_of, task_bits};
 ghost use Rattle.plan_fields.specs.Fields.{TaskOf};
-ghost use Rattle.plan.specs.Contracts.{noted, FieldsDue, Due, TaskRead, TasksRead, one_or_two, followed, HeaderRead, HeadingRead};
-ghost use Rattle.plan.specs.Contracts.{no_memory};
+ghost use Rattle.plan.specs.Reads.{noted, FieldsDue, Due, TaskRead, TasksRead, one_or_two, followed, HeaderRead, HeadingRead};
+ghost use Rattle.plan.specs.Reads.{no_memory};
 ghost use Rattle.plan.specs.Promise.{no_heading, RightHeading};
 
 use memory::Memory;
@@ -24,8 +24,8 @@ pub struct Heading {
 
 // One predecessor more for the task s. An unused field is noted at task 0, which has none.
 fn note(memory: &mut Memory, s: usize)
-    requires fact_1 { s < 1024 }
-    requires fact_2 { get_or (parts memory.old).pending s 0 + 1 < 2 ^ 16 }
+    requires a_task { s < 1024 }
+    requires room { get_or (parts memory.old).pending s 0 + 1 < 2 ^ 16 }
     ensures { parts_after memory ≡ with_pending (parts_before memory) (noted (parts_before memory).pending s) }
 {
     let at = memory::PENDING + s;
@@ -46,9 +46,9 @@ fn fields_of(bytes: &[u8], t: usize, width: usize) -> TaskFields
 
 // Reads the task t of n: its questions, and where they pass its fields and its ticks, all of them left, into the memory.
 fn read_task(bytes: &[u8], t: usize, n: usize, width: usize, memory: &mut Memory) -> PlanAnswer
-    requires fact_1 { t < n }
-    requires fact_2 { width ≡ (form_of bytes.now).task_bytes }
-    requires fact_3 { Due bytes.now n t (parts memory.old) }
+    requires inside { t < n }
+    requires its_width { width ≡ (form_of bytes.now).task_bytes }
+    requires due { Due bytes.now n t (parts memory.old) }
     ensures { TaskRead bytes.now t result (parts_after memory) }
 {
     let f = fields_of(bytes, t, width);
@@ -68,8 +68,8 @@ fn read_task(bytes: &[u8], t: usize, n: usize, width: usize, memory: &mut Memory
 
 // Reads all n tasks, in rising order, and stops at the first "no". The memory comes with zeros.
 fn read_tasks(bytes: &[u8], n: usize, width: usize, memory: &mut Memory) -> PlanAnswer
-    requires fact_1 { width ≡ (form_of bytes.now).task_bytes }
-    requires fact_2 { Due bytes.now n 0 (parts memory.old) }
+    requires its_width { width ≡ (form_of bytes.now).task_bytes }
+    requires due { Due bytes.now n 0 (parts memory.old) }
     ensures { TasksRead bytes.now n result (parts_after memory) }
 {
     let mut t = 0;
@@ -86,8 +86,8 @@ fn read_tasks(bytes: &[u8], n: usize, width: usize, memory: &mut Memory) -> Plan
 
 // Reads all n tasks of a plan of this form. The loop is told the bytes of a task, so that there is one for each number of them.
 fn read_form(bytes: &[u8], form: usize, n: usize, memory: &mut Memory) -> PlanAnswer
-    requires fact_1 { form ≡ form_field bytes.now }
-    requires fact_2 { Due bytes.now n 0 (parts memory.old) }
+    requires its_form { form ≡ form_field bytes.now }
+    requires due { Due bytes.now n 0 (parts memory.old) }
     ensures { TasksRead bytes.now n result (parts_after memory) }
 {
     if form == plan_fields::FORM_2 {
@@ -141,8 +141,8 @@ fn refusal(answer: PlanAnswer) -> Heading
 
 // The tasks and then the graph, after an accepted header, into memory of zeros.
 fn read_graph(bytes: &[u8], h: Header, memory: &mut Memory) -> Heading
-    requires fact_1 { HeaderRead bytes.now h }
-    requires fact_2 { memory.old ≡ no_memory }
+    requires header_read { HeaderRead bytes.now h }
+    requires cleared { memory.old ≡ no_memory }
     ensures { HeadingRead bytes.now result memory.new }
 {
     let n = h.tasks;

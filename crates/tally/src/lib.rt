@@ -27,8 +27,8 @@ pub fn no_tally() -> Tally
 
 // One work cycle more, and so many tasks that it completed, 1 or 0.
 pub fn add_work(t: Tally, completed: u64) -> Tally
-    requires fact_1 { Growing t }
-    requires fact_2 { completed ≤ 1 }
+    requires growing { Growing t }
+    requires one_at_most { completed ≤ 1 }
     ensures { result ≡ add_work t completed }
 {
     let works = t.works;
