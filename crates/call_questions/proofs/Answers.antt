@@ -5,8 +5,6 @@ use mathlib.Core.Bool.{Bool, true, false, ◌&&◌}
 use mathlib.Core.List.{List, [], ◌∷◌}
 use Prim.Native.Nat.{ℕ, ◌+◌, ◌<◌}
 use native.Mathlib.Numerals.{add-one}
-use types.Run.{OneOf, miss}
-use denote.Enum.Declared.{tag_of}
 use lib.Dec.{ltb}
 use lib.ListN.{length, get_or, drop}
 use lib.Seq.{drop-cons, drop-length}
@@ -17,7 +15,6 @@ use Rattle.call_questions.specs.declared.CallAnswer.TheVariants.{Accepted, Finis
 use Rattle.call_questions.specs.declared.CallAnswer.TheVariants.{NoQuantum, WrongChoiceCount, BadChoice, NoOffer, OfferNoted}
 use Rattle.call_questions.specs.Answers.{answer_of}
 use Rattle.call_questions.specs.Asked.{choices_below}
-use Rattle.call_questions.specs.contracts.CallAnswer.{the_type}
 
 -- ---- 17, choice by choice
 
@@ -44,12 +41,9 @@ pub record IsRefusal (answer : CallAnswer) : Type 0 where
   pub number : ℕ
   pub told : answer_of answer ≡ refused number
 
-abbrev refusals : List ℕ
-refusals = 1 ∷ 2 ∷ 3 ∷ 4 ∷ 5 ∷ 6 ∷ 7 ∷ 8 ∷ 9 ∷ []
-
--- the code tells the answers apart by their tags, 0 for `Accepted`
-pub refusing : (answer : CallAnswer) → OneOf refusals (tag_of the_type answer) → IsRefusal answer
-refusing Accepted h = absurd (miss refusals 0 tt h)
+-- every answer but `Accepted` is a refusal
+pub refusing : (answer : CallAnswer) → (answer ≡ Accepted → ⊥) → IsRefusal answer
+refusing Accepted h = absurd (h refl)
 refusing Finished h = record { number = _; told = refl }
 refusing QuantumOpen h = record { number = _; told = refl }
 refusing QuantaSpent h = record { number = _; told = refl }
