@@ -1,5 +1,7 @@
 // A number's decimal digits, straight to their place in a lent buffer, first to last. The definitions are `decimal` of model's
 // specs/Counters.antt and `digit_count` of its specs/Digits.antt.
+#![tactic(auto)]
+
 ghost use Rattle.std.specs.Prelude.{◌≡◌, ◌+◌, ◌≤◌, ◌<◌, length};
 ghost use Rattle.std.proofs.lemmas.List.Edits.{sets};
 ghost use Rattle.model.specs.Digits.{digit_count};
@@ -7,8 +9,8 @@ ghost use Rattle.digits.specs.Spelling.{digit, pair, field, Spells};
 
 // Puts the digit of a number below 10 at `at`.
 fn put_digit(buffer: &mut [u8], at: usize, n: u64)
-    requires n_bound { n < 10 }
-    requires at_in_bounds { at < length buffer.old }
+    requires below_10 { n < 10 }
+    requires room { at < length buffer.old }
     ensures { buffer.new ≡ sets buffer.old at (digit n) }
 {
     buffer[at] = 48 + n as u8;
@@ -17,8 +19,8 @@ fn put_digit(buffer: &mut [u8], at: usize, n: u64)
 // Puts the two digits of a number below 100 at `at`. `both` is (48 + tens) + 256 * (48 + ones), where ones is n - 10 * tens: from one
 // number the two bytes are one store.
 fn put_pair(buffer: &mut [u8], at: usize, n: u64)
-    requires n_bound { n < 100 }
-    requires at_in_bounds { at + 2 ≤ length buffer.old }
+    requires below_100 { n < 100 }
+    requires room { at + 2 ≤ length buffer.old }
     ensures { buffer.new ≡ sets buffer.old at (pair n) }
 {
     let tens = n * 103 / 1024;
@@ -30,8 +32,8 @@ fn put_pair(buffer: &mut [u8], at: usize, n: u64)
 
 // Puts the digits of a number below 100 at `at`, and answers the place after them.
 fn put_short(buffer: &mut [u8], at: usize, n: u64) -> usize
-    requires n_bound { n < 100 }
-    requires n_in_bounds { at + digit_count n ≤ length buffer.old }
+    requires below_100 { n < 100 }
+    requires room { at + digit_count n ≤ length buffer.old }
     ensures { Spells n at buffer.old buffer.new result }
 {
     if n < 10 {
@@ -44,8 +46,8 @@ fn put_short(buffer: &mut [u8], at: usize, n: u64) -> usize
 
 // Puts the digits of a number from 100 on: those of its hundreds, and then its last two.
 fn put_long(buffer: &mut [u8], at: usize, n: u64) -> usize
-    requires le_n { 100 ≤ n }
-    requires n_in_bounds { at + digit_count n ≤ length buffer.old }
+    requires from_100 { 100 ≤ n }
+    requires room { at + digit_count n ≤ length buffer.old }
     ensures { Spells n at buffer.old buffer.new result }
 {
     let hundreds = n / 100;
@@ -85,8 +87,8 @@ fn put_decimal(buffer: &mut [u8], at: usize, n: u64) -> usize
 // Puts n's digits and the byte `end` at `at`, and answers the place after them.
 pub fn put_field(buffer: &mut [u8], at: usize, n: u64, end: u8) -> usize
     requires { at + digit_count n + 1 ≤ length buffer.old }
-    ensures value { result ≡ at + digit_count n + 1 }
-    ensures buffer_after { buffer.new ≡ sets buffer.old at (field n end) }
+    ensures next { result ≡ at + digit_count n + 1 }
+    ensures bytes { buffer.new ≡ sets buffer.old at (field n end) }
 {
     if n < 10 {
         put_digit(buffer, at, n);

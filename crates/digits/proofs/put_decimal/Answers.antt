@@ -1,6 +1,5 @@
 -- `digits::put_decimal` meets its contract: one or two digits, or the last two after the hundreds. Assumes nothing.
 use native.Mathlib.Omega.{arith}
-use borrow.Author.Rules.{rules}
 use Rattle.digits.proofs.Spelling.{more_count, spells_more}
 use Rattle.digits.proofs.put_decimal.Goals as goal
 
@@ -11,7 +10,7 @@ put_hundreds-next-requires c =
 pub put_pair-requires : goal.put_pair-requires
 put_pair-requires c =
     let least = c.if-n-lt100.false in
-    (omega arith, omega (arith, c.put_hundreds-next.ensures.after, more_count c.args.n least))
+    record { below_100 = omega arith; room = omega (arith, c.put_hundreds-next.ensures.after, more_count c.args.n least) }
 
 pub overflow_add-result : goal.overflow_add-result
 overflow_add-result c =

@@ -1,7 +1,6 @@
 -- `digits::put_pair` meets its contract: the two bytes of `both` are the digits. Assumes nothing.
 use native.Mathlib.Omega.{arith}
 use lib.ListN.{length-set}
-use borrow.Author.Rules.{rules}
 use Rattle.digits.proofs.Spelling.{pair_stored}
 use Rattle.digits.proofs.put_pair.Goals as goal
 
@@ -11,4 +10,4 @@ bounds-buffer-second c =
 
 pub returns : goal.returns
 returns c =
-    pair_stored c.args.n c.requires.0 (omega arith) c.args.at c.args.buffer.now
+    pair_stored c.args.n c.requires.below_100 (omega arith) c.args.at c.args.buffer.now
