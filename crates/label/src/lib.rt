@@ -1,5 +1,7 @@
 // The label of a status: the stretch of the lent label sheet (document 01: wording sheet) itself, without byte 10.
 // Document 01, "Day log and label"; the definitions are model's specs/Label.antt.
+#![tactic(auto)]
+
 ghost use Rattle.std.specs.Prelude.{◌≡◌, ◌+◌, ◌≤◌, length};
 ghost use Rattle.model.specs.Label.{label, label_answer};
 ghost use Rattle.label.specs.Found.{found_answer, found_stretch};
@@ -98,8 +100,8 @@ fn line_end(sheet: &[u8], from: usize) -> usize
 
 // Where the line of a status stands in the sheet. It reads no more than 63 bytes past that line's end.
 pub fn find(sheet: &[u8], status: u8) -> Found
-    ensures result_value { found_answer result ≡ label_answer sheet.now status }
-    ensures result_value_2 { found_stretch result ≡ label sheet.now status }
+    ensures answer { found_answer result ≡ label_answer sheet.now status }
+    ensures stretch { found_stretch result ≡ label sheet.now status }
 {
     let mut left = status;
     let mut start: usize = 0;

@@ -1,10 +1,8 @@
 -- `label::end_by_bytes` meets its contract. The loop's invariant: no byte 10 is passed. The measure is what is left of the sheet.
 -- Assumes nothing.
 use Prim.Native.Nat.{◌-◌}
-use native.Mathlib.Omega.{arith}
 use lib.ListN.{length}
 use Rattle.label.specs.Ends.{Passed}
-use Rattle.label.proofs.Ends.{passed_none, passed_more, end_here, end_none}
 use Rattle.label.proofs.end_by_bytes.Given as goal
 
 abbrev pub invariant-loop-i : goal.invariant-loop-i

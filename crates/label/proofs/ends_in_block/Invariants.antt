@@ -1,9 +1,7 @@
 -- `label::ends_in_block` meets its contract. The loop's invariant is `InBlock`, the measure what is left of the block.
 -- Assumes nothing.
 use Prim.Native.Nat.{◌-◌}
-use native.Mathlib.Omega.{arith}
-use borrow.Author.Rules.{rules}
-use Rattle.label.proofs.Ends.{InBlock, block_first, block_more, block_last}
+use Rattle.label.proofs.Ends.{InBlock}
 use Rattle.label.proofs.ends_in_block.Given as goal
 
 abbrev pub invariant-loop-k : goal.invariant-loop-k

@@ -1,10 +1,7 @@
 -- `label::find` meets its contract. The loop's invariant is `Sought`, of the end of the open line: the line that is sought is line
 -- `left` of those ahead. The measure is what is left of the sheet. Assumes nothing.
-use mathlib.Core.Path.{◌≡◌}
-use Prim.Native.Nat.{◌-◌, ◌<◌}
 use native.Mathlib.Omega.{arith}
-use lib.ListN.{length, get_or}
-use Rattle.label.proofs.Search.{Sought, at_first, past_bytes, past_line, here, here_answer, missing, missing_answer}
+use Rattle.label.proofs.Search.{at_first, past_bytes, past_line, here, here_answer, missing, missing_answer}
 use Rattle.label.proofs.find.Goals as goal
 
 pub loop-end-init : goal.loop-end-init
@@ -17,7 +14,7 @@ returns-then-left-eq0 c =
     let sought = c.loop-end.invariant.0 in
     let inside = c.loop-end-test.true in
     let ten = c.loop-end.invariant.1 inside in
-    (here_answer sought inside ten (omega arith), here sought inside ten (omega arith))
+    record { answer = here_answer sought inside ten (omega arith); stretch = here sought inside ten (omega arith) }
 
 pub loop-end-smaller : goal.loop-end-smaller
 loop-end-smaller c =
@@ -32,4 +29,6 @@ loop-end-preserved c =
 
 pub returns : goal.returns
 returns c =
-    (missing_answer c.loop-end.invariant.0 c.loop-end-test.false, missing c.loop-end.invariant.0 c.loop-end-test.false)
+    let sought = c.loop-end.invariant.0 in
+    let past = c.loop-end-test.false in
+    record { answer = missing_answer sought past; stretch = missing sought past }

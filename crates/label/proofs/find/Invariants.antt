@@ -2,9 +2,8 @@
 -- `left` of those ahead. The measure is what is left of the sheet. Assumes nothing.
 use mathlib.Core.Path.{◌≡◌}
 use Prim.Native.Nat.{◌-◌, ◌<◌}
-use native.Mathlib.Omega.{arith}
 use lib.ListN.{length, get_or}
-use Rattle.label.proofs.Search.{Sought, at_first, past_bytes, past_line, here, here_answer, missing, missing_answer}
+use Rattle.label.proofs.Search.{Sought}
 use Rattle.label.proofs.find.Given as goal
 
 abbrev pub invariant-loop-end : goal.invariant-loop-end

@@ -1,10 +1,8 @@
 -- `label::line_end` meets its contract. The loop's invariant: no byte 10 is passed. The measure is what is left of the sheet.
 -- Assumes nothing.
 use Prim.Native.Nat.{◌-◌}
-use native.Mathlib.Omega.{arith}
 use lib.ListN.{length}
 use Rattle.label.specs.Ends.{Passed}
-use Rattle.label.proofs.Ends.{passed_more, passed_two, passed_three, end_here, end_after}
 use Rattle.label.proofs.line_end.Given as goal
 
 abbrev pub invariant-loop-i : goal.invariant-loop-i
