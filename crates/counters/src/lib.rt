@@ -1,5 +1,7 @@
 // The counters line (document 01: count line), written straight into a lent buffer. Document 01, "Day log and label"; the
 // definitions are model's specs/Counters.antt, and of its length specs/Digits.antt.
+#![tactic(auto)]
+
 ghost use Rattle.std.specs.Prelude.{◌≡◌, ◌≤◌, length};
 ghost use Rattle.model.specs.Counters.{spaced, put_at_start};
 ghost use Rattle.model.specs.Digits.{line_size};
@@ -54,8 +56,8 @@ pub fn numbers(counters: Counters) -> [u64; 10]
 // bytes that takes.
 fn put_numbers(counters: Counters, buffer: &mut [u8]) -> usize
     requires { line_size (numbers_of counters) ≤ length buffer.old }
-    ensures value { result ≡ line_size (numbers_of counters) }
-    ensures buffer_after { buffer.new ≡ put_at_start (spaced (numbers_of counters)) buffer.old }
+    ensures sized { result ≡ line_size (numbers_of counters) }
+    ensures bytes { buffer.new ≡ put_at_start (spaced (numbers_of counters)) buffer.old }
 {
     let status = counters.status;
     let mut at = digits::put_field(buffer, 0, status::number_of(status) as u64, 32);

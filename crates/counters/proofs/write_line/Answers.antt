@@ -1,0 +1,17 @@
+-- `counters::write_line` meets its contract: the widths of the ten numbers' types keep the line to 127 bytes. Assumes nothing.
+use native.Mathlib.Omega.{arith}
+use Rattle.counters.proofs.Line.{Wide, line_within, too_small, big_enough}
+use Rattle.counters.proofs.write_line.Goals as goal
+
+pub returns-then-buffer-lt128 : goal.returns-then-buffer-lt128
+returns-then-buffer-lt128 c =
+    too_small _ _ (omega (arith, c.if-buffer-lt128.true))
+
+pub put_numbers-requires : goal.put_numbers-requires
+put_numbers-requires c =
+    let wide : Wide c.args.counters = omega (arith, c.well_formed.0) in
+    omega (arith, c.if-buffer-lt128.false, line_within _ wide)
+
+pub returns : goal.returns
+returns c =
+    rw (c.put_numbers.ensures.sized, c.put_numbers.ensures.bytes) (big_enough _ _ (omega (arith, c.if-buffer-lt128.false)))
