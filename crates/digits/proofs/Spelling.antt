@@ -2,11 +2,8 @@
 -- Assumes nothing.
 use mathlib.Core.Path.{◌≡◌, sym, ap, ◌∙◌}
 use mathlib.Core.List.{List, [], ◌∷◌, ◌++◌}
-use Prim.Native.Nat.{ℕ, ◌+◌, ◌-◌, ◌*◌, ◌/◌, ◌%◌, ◌≤◌, ◌<◌}
-use native.Mathlib.Nat.{mul-add-mod_self_left, mul-add-div}
-use native.Mathlib.Numerals.{add-one}
+use Prim.Native.Nat.{ℕ, ◌+◌, ◌/◌, ◌%◌, ◌≤◌, ◌<◌}
 use native.Mathlib.Omega.{arith}
-use lib.Dec.{lit<}
 use lib.ListN.{length, set, length-append}
 use lib.Seq.{sets, length-sets}
 use Rattle.model.specs.Counters.{decimal}
@@ -35,24 +32,6 @@ more_count n h =
 
 pub field_length : (n end : ℕ) → length (field n end) ≡ digit_count n + 1
 field_length n end = length-append (decimal n) (end ∷ []) ∙ ap (λ (k : ℕ). k + 1) (decimal_length n)
-
--- ---- two digits of a number below 100, made in one number of two bytes, and stored
-
-abbrev pub both_of : ℕ → ℕ → ℕ
-both_of n tens = 12336 + 256 * n - 2559 * tens
-
-module _ (n : ℕ) (h : n < 100) {tens : ℕ} (tenth : tens ≡ n / 10) where
-  both_split : (both_of n tens % 256 ≡ 48 + n / 10) × (both_of n tens / 256 ≡ 48 + n % 10)
-  both_split =
-      let high = 48 + n % 10 in
-      let low = 48 + n / 10 in
-      let sum : both_of n tens ≡ 256 * high + low = omega arith in (
-        rw sum (mul-add-mod_self_left 256 high low ∙ omega arith),
-        rw sum (mul-add-div (lit< tt) high low ∙ omega arith),
-      )
-
-  pub pair_stored : (at : ℕ) (b : List ℕ) → set (set b at (both_of n tens % 256)) (at + 1) (both_of n tens / 256) ≡ sets b at (pair n)
-  pair_stored at b = rw (both_split.0, both_split.1, add-one)
 
 -- ---- the digits, from the first on
 
