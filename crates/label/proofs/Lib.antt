@@ -1,4 +1,3 @@
--- The proofs, by topic.
-pub mod Ends
+-- Search: how far a status's line is found, byte by byte. Part: the part of the sheet that is handed back.
 pub mod Search
 pub mod Part

@@ -16,10 +16,6 @@ returns-then-left-eq0 c =
     let ten = c.loop-end.invariant.1 inside in
     record { answer = here_answer sought inside ten (omega arith); stretch = here sought inside ten (omega arith) }
 
-pub loop-end-smaller : goal.loop-end-smaller
-loop-end-smaller c =
-    omega (arith, c.loop-end-test.true, c.line_end-end-in-loop-end.ensures.passed.forward)
-
 pub loop-end-preserved : goal.loop-end-preserved
 loop-end-preserved c =
     let inside = c.loop-end-test.true in
