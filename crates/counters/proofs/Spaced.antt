@@ -2,14 +2,14 @@
 -- Assumes nothing.
 use mathlib.Core.Path.{◌≡◌, refl, sym, ap, ◌∙◌}
 use mathlib.Core.List.{List, [], ◌∷◌, ◌++◌, append_assoc}
-use Prim.Native.Nat.{ℕ, ◌+◌, ◌≤◌}
+use Prim.Native.Nat.{ℕ, ◌+◌}
 use native.Mathlib.Omega.{arith}
 use lib.ListN.{length, length-append}
-use lib.Seq.{sets, length-sets}
-use Rattle.model.specs.Counters.{decimal, spaced, put_at_start}
-use Rattle.model.specs.Digits.{digit_count, digit_counts, line_size}
+use lib.Seq.{sets}
+use Rattle.model.specs.Counters.{decimal, spaced}
+use Rattle.model.specs.Digits.{digit_count, digit_counts}
 use Rattle.digits.specs.Spelling.{field}
-use Rattle.digits.proofs.Stores.{sets_append, sets_start}
+use Rattle.digits.proofs.Stores.{sets_append}
 use Rattle.digits.proofs.Spelling.{field_length}
 
 -- the fields of some numbers, put one after the other: a space after each, and byte 10 after the last
@@ -42,43 +42,3 @@ spaced_length n (m ∷ ns) =
     ap length (spaced_more n m ns)
     ∙ length-append (field n 32) (spaced (m ∷ ns))
     ∙ omega (arith, field_length n 32, spaced_length m ns)
-
--- on the way: of ten numbers these are left; with their fields put at `at` the buffer is what it is to be
-pub record Lined (ten start buffer : List ℕ) (at : ℕ) (left : List ℕ) : Type 0 where
-  pub room : line_size ten ≤ length start
-  pub same_length : length buffer ≡ length start
-  pub sized : at + digit_counts left + length left ≡ line_size ten
-  pub rest : fields buffer at left ≡ put_at_start (spaced ten) start
-
-pub lined_first : (start : List ℕ) (n : ℕ) (ns : List ℕ) → length (n ∷ ns) ≡ 10 → line_size (n ∷ ns) ≤ length start
-    → Lined (n ∷ ns) start start 0 (n ∷ ns)
-lined_first start n ns ten room =
-    record {
-      room = room;
-      same_length = refl;
-      sized = omega (arith, ten);
-      rest = fields_are_spaced start 0 n ns ∙ sets_start (spaced (n ∷ ns)) start (omega (arith, spaced_length n ns, ten));
-    }
-
-module _ {ten start buffer : List ℕ} {at n : ℕ} where
-  -- there is room for the next number
-  pub lined_room : {ns : List ℕ} → Lined ten start buffer at (n ∷ ns) → at + digit_count n + 1 ≤ length buffer
-  lined_room l = omega (arith, l.room, l.same_length, l.sized)
-
-  pub lined_more : {m : ℕ} {ns b : List ℕ} {next : ℕ} → Lined ten start buffer at (n ∷ m ∷ ns) →
-      (next ≡ at + digit_count n + 1) × (b ≡ sets buffer at (field n 32)) → Lined ten start b next (m ∷ ns)
-  unfolding fields
-  lined_more l put =
-      rw (put.0, put.1)
-      (record {
-        room = l.room;
-        same_length = length-sets buffer at (field n 32) ∙ l.same_length;
-        sized = omega (arith, l.sized);
-        rest = l.rest;
-      })
-
-  pub lined_last : {b : List ℕ} {next : ℕ} → Lined ten start buffer at (n ∷ []) →
-      (next ≡ at + digit_count n + 1) × (b ≡ sets buffer at (field n 10)) →
-      (next ≡ line_size ten) × (b ≡ put_at_start (spaced ten) start)
-  unfolding fields
-  lined_last l put = (omega (arith, put.0, l.sized), put.1 ∙ l.rest)

@@ -5,13 +5,13 @@ use Rattle.counters.proofs.write_line.Goals as goal
 
 pub returns-then-buffer-lt128 : goal.returns-then-buffer-lt128
 returns-then-buffer-lt128 c =
-    too_small _ _ (omega (arith, c.if-buffer-lt128.true))
+    too_small _ _ (omega arith)
 
 pub put_numbers-requires : goal.put_numbers-requires
 put_numbers-requires c =
-    let wide : Wide c.args.counters = omega (arith, c.well_formed.0) in
-    omega (arith, c.if-buffer-lt128.false, line_within _ wide)
+    let wide : Wide c.args.counters = omega arith in
+    omega (arith, line_within _ wide)
 
 pub returns : goal.returns
 returns c =
-    rw (c.put_numbers.ensures.sized, c.put_numbers.ensures.bytes) (big_enough _ _ (omega (arith, c.if-buffer-lt128.false)))
+    rw (c.put_numbers.ensures.sized, c.put_numbers.ensures.bytes) (big_enough _ _ (omega arith))
