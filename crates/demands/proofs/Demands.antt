@@ -2,7 +2,7 @@
 -- plan and the calls, refused ones included, and whatever job an accepted plan and calls reach has what the demands say.
 -- The records of a chain, Accepts, Moves and Runs, are the very contracts wherever a job is held: of a record by value (`job::accept`,
 -- `grant`, `offer`, `open`, `withdraw`, `tick`), of lent memory (`exports`, `exports_log`) and of what the program calls (`engine::accept`,
--- `log::run`). An offer and a withdrawal of lent memory get the words alone, and what they promise is Moves with the memory at hand.
+-- `day_log::run`). An offer and a withdrawal of lent memory get the words alone, and what they promise is Moves with the memory at hand.
 -- Assumes nothing.
 use mathlib.Core.Path.{◌≡◌, refl, sym, subst}
 use mathlib.Core.List.{List, [], ◌∷◌, ◌++◌}

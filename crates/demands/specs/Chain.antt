@@ -8,7 +8,7 @@ use Rattle.model.specs.Machine.{Call}
 use Rattle.model.specs.Log.{entries}
 use Rattle.memory.specs.declared.Job.{Job}
 use Rattle.engine.specs.Moves.{Accepts, Moves}
-use Rattle.log.specs.Running.{Runs}
+use Rattle.day_log.specs.Running.{Runs}
 
 -- the plan of these bytes, and then these calls, left this job
 pub data Chain (bytes : List ℕ) : List Call → Job → Type 0 where

@@ -6,7 +6,7 @@ use Rattle.model.specs.Seeds.{DayCall, grants_plainly, ticks_by_seed, day_log}
 use Rattle.memory.specs.declared.Job.{Job}
 use Rattle.memory.specs.Jobs.{job_plan, job_state}
 use Rattle.engine.specs.Moves.{Moves}
-use Rattle.log.specs.Running.{Runs}
+use Rattle.day_log.specs.Running.{Runs}
 use Rattle.seeded.specs.Drawn.{shown, TicksSeeded}
 
 -- the calls of this day were made of this job with this seed, and left that job and that seed

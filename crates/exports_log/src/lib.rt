@@ -5,9 +5,9 @@ ghost use Rattle.model.specs.Questions.{answer_number};
 ghost use Rattle.model.specs.Log.{log_answer};
 ghost use Rattle.memory.specs.Jobs.{job, job_before, job_after};
 ghost use Rattle.engine.specs.Reached.{IsJob};
-ghost use Rattle.log.specs.Running.{log_answer_of, Runs};
+ghost use Rattle.day_log.specs.Running.{log_answer_of, Runs};
 
-use log::LogAnswer;
+use day_log::LogAnswer;
 use memory::{Memory, Words};
 
 // The number of a log's answer.
@@ -33,6 +33,6 @@ pub extern "C" fn jirvaldo_core_run_log(
     ensures answered { result ≡ answer_number (log_answer log.now) }
     ensures runs { Runs log.now (job_before memory words) refusals.new (job_after memory words) }
 {
-    let answer = log::run(memory, words, log, refusals);
+    let answer = day_log::run(memory, words, log, refusals);
     log_number(answer)
 }

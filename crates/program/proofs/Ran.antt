@@ -21,9 +21,9 @@ use Rattle.counters.specs.declared.Counters.{Counters}
 use Rattle.counters.specs.Line.{numbers_of}
 use Rattle.digits.proofs.Stores.{sets_append, sets_start}
 use Rattle.report.specs.Shown.{CountersOf}
-use Rattle.log.specs.declared.LogAnswer.{LogAnswer}
-use Rattle.log.specs.declared.LogAnswer.TheVariants.{Whole, BrokenEntry}
-use Rattle.log.specs.Running.{log_answer_of, run_of, Runs}
+use Rattle.day_log.specs.declared.LogAnswer.{LogAnswer}
+use Rattle.day_log.specs.declared.LogAnswer.TheVariants.{Whole, BrokenEntry}
+use Rattle.day_log.specs.Running.{log_answer_of, run_of, Runs}
 use Rattle.program.specs.declared.Output.{Output}
 use Rattle.program.specs.Output.{Prints, LinePut, PrintsRan}
 use Rattle.program.proofs.Printing.{read_back, refused_short}

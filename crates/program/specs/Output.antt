@@ -6,8 +6,8 @@ use Rattle.memory.specs.Jobs.{lent, job_plan, job_state}
 use Rattle.engine.specs.Reached.{IsJob}
 use Rattle.counters.specs.declared.Counters.{Counters}
 use Rattle.counters.specs.Line.{numbers_of}
-use Rattle.log.specs.declared.LogAnswer.{LogAnswer}
-use Rattle.log.specs.Running.{log_answer_of}
+use Rattle.day_log.specs.declared.LogAnswer.{LogAnswer}
+use Rattle.day_log.specs.Running.{log_answer_of}
 use Rattle.program.specs.declared.Output.{Output}
 
 -- the output's bytes are these

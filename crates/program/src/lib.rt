@@ -7,7 +7,7 @@ ghost use Rattle.engine.specs.Reached.{JobWords};
 ghost use Rattle.program.specs.Output.{Prints, LinePut, PrintsRan};
 
 use counters::{Counters, LineAnswer};
-use log::LogAnswer;
+use day_log::LogAnswer;
 use memory::Words;
 
 // What is printed: the first `size` of the bytes. The longest output is a counters line and `refused 18`, 138 bytes.
@@ -93,7 +93,7 @@ fn plan_output(plan: &[u8], log: &[u8]) -> Output
         return refusal(plan_fields::number(answer));
     }
     let mut refusals = 0u64;
-    let ran = log::run(&mut memory, &mut words, log, &mut refusals);
+    let ran = day_log::run(&mut memory, &mut words, log, &mut refusals);
     ran_output(&words, refusals, ran)
 }
 

@@ -16,6 +16,7 @@ use Rattle.turn.proofs.Ticking.{Underway, begin, addable, tick_over, work_turn, 
 use Rattle.seeded.specs.Drawn.{choices_for}
 use Rattle.seeded.proofs.Drawing.{one_each, few_workers, next_state, choice_is}
 use Rattle.seeded.proofs.cycles.Goals as goal
+use Rattle.seeded.proofs.cycles.Goals.{then-memory-size_at-gt0, else-memory-size_at-gt0}
 
 pub loop-w-init : goal.loop-w-init
 unfolding seed_after
@@ -114,15 +115,15 @@ loop-w-preserved c =
     let drawn_state : c.next-s.result ≡ seed_after (c.loop-w.w + 1) c.args.seed = next_state c.loop-w.w c.args.seed c.loop-w.invariant.1 c.next-s.ensures in
     let tick = c.requires.turn in
     let u = c.loop-w.invariant.0 in (
-      ⊎_elim
-          (λ way.
-          rw (way.4, way.5, way.6)
-          (onward_work tick u each (omega (arith, own_size, way.0.taken)) (way.2.ensures _) way.3.ensures))
-          (λ way.
-          let idle : tie.Else1 invariant-loop decreases-loop = record { before = c; if1 = way.0 } in
-          let chosen : tie.After-choice invariant-loop decreases-loop = record { before = idle; choice = way.1 } in
-          rw (way.5, way.6, way.7) (onward_idle tick u each (rw (drawn-choice-is chosen) c way.4.ensures)))
-          c.if-memory-size_at-gt0.branch,
+      elim c.if-memory-size_at-gt0.branch [
+        then-memory-size_at-gt0 w ↦
+          rw (w.memory-is, w.words-is, w.t-is)
+          (onward_work tick u each (omega (arith, own_size, w.if-memory-size_at-gt0.true)) (w.work_cycle-completed.ensures _)
+          w.add_work-t.ensures)
+        | else-memory-size_at-gt0 w ↦
+          let chosen = choice_is c.args.words.now c.args.seed c.loop-w.w among drawn_state w.choice-choice.ensures in
+          rw (w.memory-is, w.words-is, w.t-is) (onward_idle tick u each (rw chosen at w.idle_cycle-t.ensures))
+      ],
       drawn_state,
     )
 

@@ -7,8 +7,8 @@ use Rattle.model.specs.Log.{Ran, entries, run_log}
 use Rattle.memory.specs.declared.Job.{Job}
 use Rattle.memory.specs.Jobs.{job_plan, job_state}
 use Rattle.engine.specs.Reached.{Reached}
-use Rattle.log.specs.declared.LogAnswer.{LogAnswer}
-use Rattle.log.specs.declared.LogAnswer.TheVariants.{Whole, BrokenEntry}
+use Rattle.day_log.specs.declared.LogAnswer.{LogAnswer}
+use Rattle.day_log.specs.declared.LogAnswer.TheVariants.{Whole, BrokenEntry}
 
 -- the paper's number of the log's answer: "Is the entry whole? 18"
 abbrev pub log_answer_of : LogAnswer → Answer

@@ -15,8 +15,8 @@ use Rattle.memory.specs.declared.Job.{Job}
 use Rattle.memory.specs.Jobs.{job_plan, job_state}
 use Rattle.engine.specs.Reached.{Reached, IsJob}
 use Rattle.engine.specs.Moves.{Moves}
-use Rattle.log.specs.declared.LogAnswer.{LogAnswer}
-use Rattle.log.specs.Running.{log_answer_of, Runs}
+use Rattle.day_log.specs.declared.LogAnswer.{LogAnswer}
+use Rattle.day_log.specs.Running.{log_answer_of, Runs}
 
 -- ---- model's run of one call more
 

@@ -13,9 +13,9 @@ use Rattle.model.specs.Machine.{State, Call, call_answer, step}
 use Rattle.model.specs.Log.{Ran, entry_whole, entries_up_to, entries, run_calls, run_log}
 use Rattle.memory.specs.declared.Job.{Job}
 use Rattle.memory.specs.Jobs.{job_state}
-use Rattle.log.specs.Running.{Runs}
+use Rattle.day_log.specs.Running.{Runs}
 use Rattle.log_reader.proofs.Entries.{entries_cons}
-use Rattle.log.proofs.Running.{called}
+use Rattle.day_log.proofs.Running.{called}
 
 -- each of these calls is refused when it is asked of the state s
 abbrev pub AllRefused : State → List Call → Type 0

@@ -4,7 +4,7 @@ ghost use Rattle.model.specs.Log.{refusals_in, log_answer};
 ghost use Rattle.memory.specs.Jobs.{job, job_before, job_after};
 ghost use Rattle.call_questions.specs.Answers.{answer_of};
 ghost use Rattle.engine.specs.Reached.{IsJob};
-ghost use Rattle.log.specs.Running.{log_answer_of, Runs};
+ghost use Rattle.day_log.specs.Running.{log_answer_of, Runs};
 
 use call_questions::CallAnswer;
 use log_reader::Entry;
