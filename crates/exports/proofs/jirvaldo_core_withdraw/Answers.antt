@@ -3,16 +3,12 @@
 use mathlib.Core.Path.{ap, ◌∙◌}
 use borrow.Author.Rules.{rules}
 use Rattle.model.specs.Questions.{answer_number}
-use Rattle.exports.proofs.jirvaldo_core_withdraw.Statement.{statement}
-use Rattle.exports.proofs.jirvaldo_core_withdraw.Tie as tie
+use Rattle.exports.proofs.jirvaldo_core_withdraw.Goals as goal
 
-returns : tie.Need-returns
+pub returns : goal.returns
 returns c =
-    let called = c.before.withdraw.ensures in
+    let called = c.withdraw-dropping.ensures in
     record {
       answered = λ memory is_job. c.number.ensures ∙ ap answer_number (called.answered memory is_job);
       moves = called.moves;
     }
-
-pub jirvaldo-core-withdraw-spec : {M : Type 1} → statement M
-jirvaldo-core-withdraw-spec = tie.close (tie.spec (λ c κs. search rules) (λ c κs. search rules) returns)

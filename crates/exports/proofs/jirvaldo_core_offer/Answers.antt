@@ -3,16 +3,12 @@
 use mathlib.Core.Path.{ap, ◌∙◌}
 use borrow.Author.Rules.{rules}
 use Rattle.model.specs.Questions.{answer_number}
-use Rattle.exports.proofs.jirvaldo_core_offer.Statement.{statement}
-use Rattle.exports.proofs.jirvaldo_core_offer.Tie as tie
+use Rattle.exports.proofs.jirvaldo_core_offer.Goals as goal
 
-returns : tie.Need-returns
+pub returns : goal.returns
 returns c =
-    let called = c.before.offer.ensures in
+    let called = c.offer-noting.ensures in
     record {
       answered = λ memory is_job. c.number.ensures ∙ ap answer_number (called.answered memory is_job);
       moves = called.moves;
     }
-
-pub jirvaldo-core-offer-spec : {M : Type 1} → statement M
-jirvaldo-core-offer-spec = tie.close (tie.spec (λ c κs. search rules) (λ c κs. search rules) returns)

@@ -1,0 +1,11 @@
+-- `exports::jirvaldo_core_tick` meets its contract: what the in-place core promises, and the number of its answer.
+-- Assumes nothing.
+use mathlib.Core.Path.{ap, ◌∙◌}
+use borrow.Author.Rules.{rules}
+use Rattle.model.specs.Questions.{answer_number}
+use Rattle.exports.proofs.jirvaldo_core_tick.Goals as goal
+
+pub returns : goal.returns
+returns c =
+    let called = (c.tick-told.ensures.answered, c.tick-told.ensures.moves) in
+    record { answered = c.number.ensures ∙ ap answer_number called.0; moves = called.1 }

@@ -1,0 +1,11 @@
+-- `exports_seed::jirvaldo_core_tick_seeded` meets its contract: what the seeded tick in place promises, and the number of its answer.
+-- Assumes nothing.
+use mathlib.Core.Path.{ap, ◌∙◌}
+use borrow.Author.Rules.{rules}
+use Rattle.model.specs.Questions.{answer_number}
+use Rattle.exports_seed.proofs.jirvaldo_core_tick_seeded.Goals as goal
+
+pub returns : goal.returns
+returns c =
+    let called = (c.tick-told.ensures.answered, c.tick-told.ensures.ticks) in
+    record { answered = c.number.ensures ∙ ap answer_number called.0; ticks = called.1 }

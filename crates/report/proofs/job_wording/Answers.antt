@@ -1,0 +1,9 @@
+-- `report::job_wording` meets its contract: the label of the record's own status. Assumes nothing.
+use borrow.Author.Rules.{rules}
+use mathlib.Core.Path.{◌∙◌}
+use Rattle.report.proofs.job_wording.Goals as goal
+
+pub returns : goal.returns
+returns c =
+    let same = c.number_of.ensures ∙ c.job_status-shown.ensures in
+    rw (← same) c.wording.ensures
