@@ -39,8 +39,8 @@ fn put_bytes(out: &mut [u8], at: usize, bytes: &[u8])
 // Puts `refused `, a number and byte 10 at a place, and answers the place after them.
 fn put_refusal(out: &mut [u8], at: usize, number: u8) -> usize
     requires { at + length (refused_line number) ≤ length out.old }
-    ensures value { result ≡ at + length (refused_line number) }
-    ensures out_after { out.new ≡ sets out.old at (refused_line number) }
+    ensures next { result ≡ at + length (refused_line number) }
+    ensures bytes { out.new ≡ sets out.old at (refused_line number) }
 {
     let word = [114u8, 101, 102, 117, 115, 101, 100, 32];
     put_bytes(out, at, &word);

@@ -7,5 +7,4 @@ use Rattle.exports.proofs.jirvaldo_core_accept.Goals as goal
 
 pub returns : goal.returns
 returns c =
-    let called = (c.accept-answer.ensures.answered, c.accept-answer.ensures.accepts) in
-    record { answered = c.number.ensures ∙ ap answer_number called.0; accepts = called.1 }
+    record { answered = c.number.ensures ∙ ap answer_number c.accept-answer.ensures.answered; accepts = c.accept-answer.ensures.accepts }

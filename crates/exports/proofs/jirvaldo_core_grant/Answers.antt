@@ -7,5 +7,4 @@ use Rattle.exports.proofs.jirvaldo_core_grant.Goals as goal
 
 pub returns : goal.returns
 returns c =
-    let called = (c.grant-answer.ensures.answered, c.grant-answer.ensures.moves) in
-    record { answered = c.number.ensures ∙ ap answer_number called.0; moves = called.1 }
+    record { answered = c.number.ensures ∙ ap answer_number c.grant-answer.ensures.answered; moves = c.grant-answer.ensures.moves }

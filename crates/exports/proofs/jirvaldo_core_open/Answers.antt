@@ -7,5 +7,4 @@ use Rattle.exports.proofs.jirvaldo_core_open.Goals as goal
 
 pub returns : goal.returns
 returns c =
-    let called = (c.open-opening.ensures.answered, c.open-opening.ensures.moves) in
-    record { answered = c.number.ensures ∙ ap answer_number called.0; moves = called.1 }
+    record { answered = c.number.ensures ∙ ap answer_number c.open-opening.ensures.answered; moves = c.open-opening.ensures.moves }

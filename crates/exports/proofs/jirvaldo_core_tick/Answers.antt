@@ -7,5 +7,4 @@ use Rattle.exports.proofs.jirvaldo_core_tick.Goals as goal
 
 pub returns : goal.returns
 returns c =
-    let called = (c.tick-told.ensures.answered, c.tick-told.ensures.moves) in
-    record { answered = c.number.ensures ∙ ap answer_number called.0; moves = called.1 }
+    record { answered = c.number.ensures ∙ ap answer_number c.tick-told.ensures.answered; moves = c.tick-told.ensures.moves }

@@ -7,5 +7,4 @@ use Rattle.exports_seed.proofs.jirvaldo_core_tick_seeded.Goals as goal
 
 pub returns : goal.returns
 returns c =
-    let called = (c.tick-told.ensures.answered, c.tick-told.ensures.ticks) in
-    record { answered = c.number.ensures ∙ ap answer_number called.0; ticks = called.1 }
+    record { answered = c.number.ensures ∙ ap answer_number c.tick-told.ensures.answered; ticks = c.tick-told.ensures.ticks }

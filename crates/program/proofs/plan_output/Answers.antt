@@ -26,6 +26,5 @@ ran_output-requires c =
 pub returns : goal.returns
 returns c =
     let yes : plan_answer c.args.plan.now ≡ accepted = accepted_plan _ _ _ c.accept-answer.ensures.answered c.passed.ensures c.if-not-passed.false in
-    let told = (c.run-ran.ensures.answered, c.run-ran.ensures.runs) in
     after_plan _ _ _ yes
-    (log_printed c.accept-answer.ensures.accepts yes told.1 told.0 c.ran_output.ensures)
+    (log_printed c.accept-answer.ensures.accepts yes c.run-ran.ensures.runs c.run-ran.ensures.answered c.ran_output.ensures)

@@ -12,11 +12,11 @@ returns-in-Written c =
     let wide : Wide c.args.counters = omega (arith, c.well_formed.0) in
     let called = c.write_line in
     line_put _ wide _ c.requires called.ensures
-    (ap line_length c.size-1.given.1)
+    (ap line_length c.in-Written.is)
 
 pub returns-in-TooSmall : goal.returns-in-TooSmall
 returns-in-TooSmall c =
     let wide : Wide c.args.counters = omega (arith, c.well_formed.0) in
     let called = c.write_line in
     line_put _ wide _ c.requires called.ensures
-    (ap line_length c.enum_told-1.given.1)
+    (ap line_length c.in-TooSmall.is)

@@ -19,8 +19,8 @@ overflow_add-at c =
 
 pub put_field-requires : goal.put_field-requires
 put_field-requires c =
-    omega (arith, c.requires, c.put_bytes.auto.0, refused_long c.args.number)
+    omega (arith, c.requires, c.put_bytes.auto.out, refused_long c.args.number)
 
 pub returns : goal.returns
 returns c =
-    let s = c.args in record { value = omega (arith, c.put_field.ensures.next, refused_long s.number); out_after = c.put_field.ensures.bytes ∙ ap (λ (l : List ℕ). sets l (s.at + 8) (field s.number 10)) c.put_bytes.ensures ∙ refusal_put s.at s.number s.out.now }
+    let s = c.args in record { next = omega (arith, c.put_field.ensures.next, refused_long s.number); bytes = c.put_field.ensures.bytes ∙ ap (λ (l : List ℕ). sets l (s.at + 8) (field s.number 10)) c.put_bytes.ensures ∙ refusal_put s.at s.number s.out.now }

@@ -13,10 +13,9 @@ put_refusal-end-requires c =
 
 pub returns-in-BrokenEntry : goal.returns-in-BrokenEntry
 returns-in-BrokenEntry c =
-    let refusal = (c.put_refusal-end.ensures.value, c.put_refusal-end.ensures.out_after) in
     broken_printed _ c.counters_of.ensures refl c.put_line-size.ensures _ _
-    c.in-BrokenEntry.is refusal.0 refusal.1
+    c.in-BrokenEntry.is c.put_refusal-end.ensures.next c.put_refusal-end.ensures.bytes
 
 pub returns : goal.returns
 returns c =
-    whole_printed _ c.counters_of.ensures refl c.put_line-size.ensures c.in-BrokenEntry.is
+    whole_printed _ c.counters_of.ensures refl c.put_line-size.ensures c.in_default.is

@@ -11,5 +11,5 @@ put_refusal-size-requires c =
 pub returns : goal.returns
 returns c =
     let called = c.put_refusal-size in
-    prints_one _ _ _ _ called.ensures.0 called.ensures.1
+    prints_one _ _ _ _ called.ensures.next called.ensures.bytes
     (omega (arith, refused_short c.args.number (omega (arith, c.ranges))))
