@@ -2,6 +2,8 @@
 // fields are private, and what stands here is all that can be done with a count: none, one more, the number to show, and adding it to the
 // word that keeps its kind; the steal cycles of a tick are those of neither other kind. So adding one kind to another cannot be written
 // elsewhere.
+#![tactic(auto)]
+
 ghost use Rattle.std.specs.Prelude.{◌≡◌, ◌+◌, ◌-◌, ◌≤◌, ◌<◌, ◌^◌};
 ghost use Rattle.memory.specs.Words.{word, with_more, works_word, mugs_word, steals_word};
 

@@ -11,7 +11,8 @@ use native.Mathlib.Omega.{arith}
 use Rattle.model.specs.Questions.{Answer, accepted, refused, answer_number}
 use Rattle.model.specs.Plan.{plan_of, plan_answer}
 use Rattle.model.specs.Machine.{Call}
-use Rattle.model.specs.Examples.{plan_a, plan_a_begins}
+use Rattle.model.specs.Examples.{plan_a}
+use Rattle.model.proofs.Examples.{plan_a_begins}
 use Rattle.memory.specs.declared.Job.{Job}
 use Rattle.memory.specs.Jobs.{lent}
 use Rattle.engine.specs.Reached.{Reached, IsJob, JobWords}

@@ -7,7 +7,8 @@ use Prim.Native.Nat.{ℕ}
 use Rattle.model.specs.Questions.{accepted, refused}
 use Rattle.model.specs.Plan.{plan_of, plan_answer}
 use Rattle.model.specs.Machine.{Call, grants, call_answer, status}
-use Rattle.model.specs.Examples.{plan_a, plan_a_begins}
+use Rattle.model.specs.Examples.{plan_a}
+use Rattle.model.proofs.Examples.{plan_a_begins}
 use Rattle.memory.specs.declared.Job.{Job}
 use Rattle.memory.specs.Jobs.{job_state}
 use Rattle.engine.specs.Reached.{IsJob}

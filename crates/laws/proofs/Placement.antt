@@ -23,7 +23,7 @@ use Rattle.lists.proofs.Lists.{member_is, all_set_at}
 use Rattle.lists.proofs.Sums.{zeros_length, total_set}
 use Rattle.laws.proofs.Deques.{occurrences_append, occurrences_keep, occurs, no_member, in_deques_set, one_deque}
 use Rattle.laws.proofs.Stealing.{left_then_taken, apart, victim_within}
-use Rattle.laws.proofs.Readiness.{ready_elsewhere, ready_kept, not_ready, is_ready, above, inside, successor_once, Waits, waits}
+use Rattle.laws.proofs.Readiness.{ready_elsewhere, ready_kept, not_ready, above, inside, successor_once, Waits, waits}
 use Rattle.laws.proofs.Readiness.{is_waiting, not_waiting_worked, not_waiting_unready}
 use Rattle.laws.proofs.WorkTicks.{WorkTick, goes_on, completes, work_tick, some_left}
 use Rattle.laws.proofs.Cycles.{cycle_cases, fails, turn_unfinished, turn_finished, cycles_keep}

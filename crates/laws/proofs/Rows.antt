@@ -15,7 +15,8 @@ use lib.ListN.{length, get_or}
 use borrow.Author.Tests.{ltb-true, leb-true, eqb-true, le-leb, lt-leb}
 use Rattle.model.specs.Plan.{Growth, by_factor, by_tenths}
 use Rattle.model.specs.Machine.{Wish, desire_at, most_workers, next_wish, whole_parts, row_of, last_power}
-use Rattle.model.specs.Examples.{whole_part_right, row_right, rows_right, whole_parts_rule}
+use Rattle.model.specs.Examples.{whole_part_right, row_right, rows_right}
+use Rattle.model.proofs.Examples.{whole_parts_rule}
 use Rattle.model.specs.Statements.{Responsive, WholeParts, StopsAtRowEnd}
 use Rattle.lists.proofs.Tests.{and_left, and_right}
 use Rattle.laws.proofs.Ladder.{Ladder, tenths_ladder, ladder_of}

@@ -13,7 +13,8 @@ use borrow.Author.Tests.{ltb-true, leb-true, eqb-true, le-leb, lt-leb}
 use Rattle.model.specs.Tests.{below, member}
 use Rattle.model.specs.Plan.{by_factor}
 use Rattle.model.specs.Machine.{Wish, desire_at, most_workers, next_wish, top_desires, top_desire}
-use Rattle.model.specs.Examples.{powers, top_desire_right, top_desires_right, top_desires_rule}
+use Rattle.model.specs.Examples.{powers, top_desire_right, top_desires_right}
+use Rattle.model.proofs.Examples.{top_desires_rule}
 use Rattle.model.specs.Statements.{TopDesire, StopsAtTop}
 use Rattle.lists.proofs.Tests.{true_is_not_false, and_left, and_right}
 

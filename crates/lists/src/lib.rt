@@ -1,1 +1,3 @@
+#![tactic(auto)]
+
 // Laws of lists, for the proofs of all crates; no code.

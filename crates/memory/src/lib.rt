@@ -1,5 +1,6 @@
 // A job: one array for its graph and its deques, and the words of its numbers. `specs/Parts.antt` says what each part of the memory is,
 // `specs/Words.antt` what each word is, and `specs/Jobs.antt` which plan and which state the two show.
+#![tactic(auto)]
 
 // So many numbers has a job's memory, and so many words it has.
 pub const MEMORY_SIZE: usize = 5376;

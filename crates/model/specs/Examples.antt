@@ -39,20 +39,20 @@ pub record Row : Type 0 where
   pub given : List ℕ
   pub expected : List ℕ
 
-abbrev row : List ℕ → List ℕ → Row
+abbrev pub row : List ℕ → List ℕ → Row
 row given expected = record { given = given; expected = expected }
 
-same : List ℕ → List ℕ → Bool
+unfoldable pub same : List ℕ → List ℕ → Bool
 same [] [] = true
 same [] (y ∷ ys) = false
 same (x ∷ xs) [] = false
 same (x ∷ xs) (y ∷ ys) = eqb x y && same xs ys
 
-row_holds : Row → Bool
+unfoldable pub row_holds : Row → Bool
 row_holds r = same r.given r.expected
 
 -- the places of the rows that do not hold
-pub failing : ℕ → List Row → List ℕ
+unfoldable pub failing : ℕ → List Row → List ℕ
 failing i [] = []
 failing i (r ∷ rs) = cond (row_holds r) (failing (suc i) rs) (i ∷ failing (suc i) rs)
 
@@ -72,7 +72,7 @@ unfoldable pub task : ℕ → ℕ → ℕ → List ℕ
 task count first second = (count * 64 + first / 32) ∷ (first % 32 * 8 + second / 256) ∷ second % 256 ∷ []
 
 -- the four bytes of a task of form 2: the same fields, and its ticks
-lasting : ℕ → ℕ → ℕ → ℕ → List ℕ
+unfoldable pub lasting : ℕ → ℕ → ℕ → ℕ → List ℕ
 lasting count first second duration = task count first second ++ (duration ∷ [])
 
 -- a plan's bytes: its form, R, D, L, and the bytes of each task
@@ -82,7 +82,7 @@ form_bytes form r d l ts =
     (h / 2 ^ 32 % 256) ∷ (h / 2 ^ 24 % 256) ∷ (h / 2 ^ 16 % 256) ∷ (h / 2 ^ 8 % 256) ∷ (h % 256) ∷ flat_map (λ t. t) ts
 
 -- the same of form 3, with R in tenths
-gentle_bytes : ℕ → ℕ → ℕ → List (List ℕ) → List ℕ
+unfoldable pub gentle_bytes : ℕ → ℕ → ℕ → List (List ℕ) → List ℕ
 gentle_bytes tenths d l ts =
     let h = 3 * 2 ^ 36 + tenths * 2 ^ 31 + d * 2 ^ 24 + l * 2 ^ 10 + (length ts - 1) in
     (h / 2 ^ 32 % 256) ∷ (h / 2 ^ 24 % 256) ∷ (h / 2 ^ 16 % 256) ∷ (h / 2 ^ 8 % 256) ∷ (h % 256) ∷ flat_map (λ t. t) ts
@@ -92,36 +92,36 @@ unfoldable pub plan_bytes : ℕ → ℕ → ℕ → List (List ℕ) → List ℕ
 plan_bytes r d l ts = form_bytes 1 r d l ts
 
 -- Plan A's graph with another R, D or L
-diamond : ℕ → ℕ → ℕ → List ℕ
+unfoldable pub diamond : ℕ → ℕ → ℕ → List ℕ
 diamond r d l = plan_bytes r d l (task 2 1 2 ∷ task 1 3 0 ∷ task 1 3 0 ∷ task 0 0 0 ∷ [])
 
-one_task : ℕ → List ℕ
+unfoldable pub one_task : ℕ → List ℕ
 one_task l = plan_bytes 2 80 l (task 0 0 0 ∷ [])
 
 -- seven tasks: 0 is followed by 1 and 2, 1 by 3 and 4, 2 and 3 by 5, 4 and 5 by 6
-seven_tasks : List (List ℕ)
+unfoldable pub seven_tasks : List (List ℕ)
 seven_tasks = task 2 1 2 ∷ task 2 3 4 ∷ task 1 5 0 ∷ task 1 5 0 ∷ task 1 6 0 ∷ task 1 6 0 ∷ task 0 0 0 ∷ []
 
-seven : ℕ → List ℕ
+unfoldable pub seven : ℕ → List ℕ
 seven l = plan_bytes 2 80 l seven_tasks
 
 -- the same with a utilization of 1 percent and L = 1, so that every quantum with a work or mug cycle is efficient
-easy_seven : List ℕ
+unfoldable pub easy_seven : List ℕ
 easy_seven = plan_bytes 2 1 1 seven_tasks
 
 -- the same with R = 3, so that the second quantum can have three workers
-wide_seven : List ℕ
+unfoldable pub wide_seven : List ℕ
 wide_seven = plan_bytes 3 1 1 seven_tasks
 
 -- ten tasks: 0 is followed by 1 and 2, 1 by 3 and 4, 3 by 5 and 6, 2 and 4 by 7, 5 and 6 by 8, 7 and 8 by 9
-ten : List ℕ
+unfoldable pub ten : List ℕ
 ten =
     plan_bytes 2 1 1
     (task 2 1 2 ∷ task 2 3 4 ∷ task 1 7 0 ∷ task 2 5 6 ∷ task 1 7 0 ∷ task 1 8 0 ∷ task 1 8 0 ∷ task 1 9 0 ∷ task 1 9 0 ∷ task 0 0 0 ∷ [])
 
 -- thirteen tasks: 0 is followed by 1 and 2, 1 by 3 and 4, 3 by 5 and 6, 5 by 7 and 8; 9 joins 7 and 8, 10 joins 9 and 6, 11 joins 10 and 4,
 -- 12 joins 11 and 2. A worker alone has 1, 2, then 3, 4, 2, then 5, 6, 4, 2, then 7, 8, 6, 4, 2 in its line
-thirteen : List ℕ
+unfoldable pub thirteen : List ℕ
 thirteen =
     plan_bytes 2 1 1
     (task 2 1 2 ∷ task 2 3 4 ∷ task 1 12 0 ∷ task 2 5 6 ∷ task 1 11 0 ∷ task 2 7 8 ∷ task 1 10 0 ∷ task 1 9 0 ∷ task 1 9 0 ∷ task 1 10 0
@@ -129,53 +129,53 @@ thirteen =
 
 -- thirteen tasks: 0 is followed by 1 and 2, 1 by 3 and 4, 2 by 5 and 6, 3 by 7, 5 by 9, 7 by 8; 10 joins 4 and 8, 11 joins 6 and 9,
 -- 12 joins 10 and 11. Four workers have a line each, and two of them after their next tick, too
-four_lines : List ℕ
+unfoldable pub four_lines : List ℕ
 four_lines =
     plan_bytes 2 1 1
     (task 2 1 2 ∷ task 2 3 4 ∷ task 2 5 6 ∷ task 1 7 0 ∷ task 1 10 0 ∷ task 1 9 0 ∷ task 1 11 0 ∷ task 1 8 0 ∷ task 1 10 0 ∷ task 1 11 0
     ∷ task 1 12 0 ∷ task 1 12 0 ∷ task 0 0 0 ∷ [])
 
 -- N tasks in a chain
-link : ℕ → ℕ → List ℕ
+unfoldable pub link : ℕ → ℕ → List ℕ
 link n t = cond (eqb (t + 1) n) (task 0 0 0) (task 1 (t + 1) 0)
 
-chain : ℕ → ℕ → ℕ → ℕ → List ℕ
+unfoldable pub chain : ℕ → ℕ → ℕ → ℕ → List ℕ
 chain r d l n = plan_bytes r d l (map (link n) (below n))
 
-refusal : List ℕ → List ℕ
+unfoldable pub refusal : List ℕ → List ℕ
 refusal bytes = answer_number (plan_answer bytes) ∷ []
 
-after_calls : List ℕ → List Call → State
+unfoldable pub after_calls : List ℕ → List Call → State
 after_calls bytes calls = (run_calls (plan_of bytes) calls (record { state = fresh (plan_of bytes); refusals = 0 })).state
 
 -- whether a quantum is open, and its ticks
-quantum_kept : State → List ℕ
+unfoldable pub quantum_kept : State → List ℕ
 quantum_kept s = cond (no_quantum_open s.quantum) 0 1 ∷ ticks_of s.quantum ∷ []
 
 -- the ten numbers after a log on a state, or on the fresh one
-shown_from : List ℕ → State → List ℕ → List ℕ
+unfoldable pub shown_from : List ℕ → State → List ℕ → List ℕ
 shown_from bytes s log =
     let ran = run_log (plan_of bytes) log s in
     counters (plan_of bytes) ran.state ran.refusals
 
-shown : List ℕ → List ℕ → List ℕ
+unfoldable pub shown : List ℕ → List ℕ → List ℕ
 shown bytes log = shown_from bytes (fresh (plan_of bytes)) log
 
 -- the refusal's number of a call after others, 0 where it is accepted
-answered : List ℕ → List Call → Call → List ℕ
+unfoldable pub answered : List ℕ → List Call → Call → List ℕ
 answered bytes calls call = answer_number (call_answer call (after_calls bytes calls)) ∷ []
 
 -- lists of tasks, each behind its length
-listed : List (List ℕ) → List ℕ
+unfoldable pub listed : List (List ℕ) → List ℕ
 listed deques = flat_map (λ d. length d ∷ d) deques
 
 -- the workers' deques, then the muggable ones, after calls
-placed : List ℕ → List Call → List ℕ
+unfoldable pub placed : List ℕ → List Call → List ℕ
 placed bytes calls =
     let e = (after_calls bytes calls).execution in
     listed e.deques ++ listed e.muggable
 
-labelled : List ℕ → ℕ → List ℕ
+unfoldable pub labelled : List ℕ → ℕ → List ℕ
 labelled sheet status =
     answer_number (label_answer sheet status)
     ∷ (label sheet status).start
@@ -185,14 +185,14 @@ labelled sheet status =
 -- ---- document 01's examples
 
 -- example 1's log for Plan A
-abbrev log_1 : List ℕ
+abbrev pub log_1 : List ℕ
 log_1 = 0x01 ∷ 0x81 ∷ 0x00 ∷ 0x81 ∷ 0x00 ∷ 0x02 ∷ 0x82 ∷ 0x00 ∷ 0x00 ∷ 0x82 ∷ 0x00 ∷ 0x00 ∷ []
 
 -- the wanted count after the end of a quantum with this k and wanted count, efficient or not, satisfied or not
-desire_after : List ℕ → ℕ → ℕ → Bool → Bool → ℕ
+unfoldable pub desire_after : List ℕ → ℕ → ℕ → Bool → Bool → ℕ
 desire_after bytes k desire e s = (next_wish (plan_of bytes).terms.growth (record { power = k; desire = desire }) e s).desire
 
-document_rows : List Row
+unfoldable pub document_rows : List Row
 document_rows =
     -- 1, as request U6 has it: "example 1 then ends in `4 0 2 0 0`"
     row (program (0x00 ∷ 0x11 ∷ [] ++ plan_a ++ log_1))
@@ -226,171 +226,171 @@ document_rows =
 -- ---- rows of our own: each tells a misreading apart
 
 -- R, as a number of its field
-growth_number : Growth → ℕ
+unfoldable pub growth_number : Growth → ℕ
 growth_number (by_factor r) = r
 growth_number (by_tenths t) = t
 
-header_fields : List ℕ → List ℕ
+unfoldable pub header_fields : List ℕ → List ℕ
 header_fields bytes =
     form_field bytes ∷ growth_number (growth_field bytes) ∷ utilization_field bytes ∷ quantum_length_field bytes ∷ task_count bytes ∷ []
 
 -- the three fields of task t, and its ticks
-fields_of : List ℕ → ℕ → List ℕ
+unfoldable pub fields_of : List ℕ → ℕ → List ℕ
 fields_of bytes t = count_field bytes t ∷ first_field bytes t ∷ second_field bytes t ∷ duration_field bytes t ∷ []
 
-task_fields : List ℕ → List ℕ
+unfoldable pub task_fields : List ℕ → List ℕ
 task_fields bytes = fields_of bytes 0
 
 -- Plan A's fresh state, but for the number of quanta begun
-fresh_with : ℕ → State
+unfoldable pub fresh_with : ℕ → State
 fresh_with begun =
     let s = fresh (plan_of plan_a) in
     record { execution = s.execution; started = s.started; wish = s.wish; quantum = s.quantum; begun = begun; note = s.note }
 
 -- the refusal's number of a call in a state, 0 where it is accepted
-call_number : Call → State → List ℕ
+unfoldable pub call_number : Call → State → List ℕ
 call_number call s = answer_number (call_answer call s) ∷ []
 
-grant_number : ℕ → State → List ℕ
+unfoldable pub grant_number : ℕ → State → List ℕ
 grant_number g s = call_number (grants g) s
 
-quantum_shown : ClosedQuantum → List ℕ
+unfoldable pub quantum_shown : ClosedQuantum → List ℕ
 quantum_shown q = q.wanted ∷ q.granted ∷ cond q.was_efficient 1 0 ∷ cond q.was_satisfied 1 0 ∷ []
 
-current_shown : CurrentQuantum → List ℕ
+unfoldable pub current_shown : CurrentQuantum → List ℕ
 current_shown none = []
 current_shown (begun_with wish granted) = wish.desire ∷ granted ∷ []
 
 -- the closed quanta, the one that is not closed, and the tasks in the order in which they were worked
-history_shown : List ℕ → List Call → List ℕ
+unfoldable pub history_shown : List ℕ → List Call → List ℕ
 history_shown bytes calls =
     let h = run (plan_of bytes) calls in
     flat_map quantum_shown h.closed_quanta ++ current_shown h.current ++ work_order h
 
 -- the ten numbers after a second log on the record of a first
-shown_twice : List ℕ → List ℕ → List ℕ → List ℕ
+unfoldable pub shown_twice : List ℕ → List ℕ → List ℕ → List ℕ
 shown_twice bytes log more = shown_from bytes (run_log (plan_of bytes) log (fresh (plan_of bytes))).state more
 
 -- worker 1 robs worker 0 of a line of five
-half_of_five : List Call
+unfoldable pub half_of_five : List Call
 half_of_five = grants 1 ∷ ticks (0 ∷ []) ∷ grants 1 ∷ ticks (0 ∷ []) ∷ grants 1 ∷ ticks (0 ∷ []) ∷ grants 2 ∷ ticks (0 ∷ 0 ∷ []) ∷ []
 
 -- workers 1 and 2 rob worker 0, and worker 3 robs worker 1
-three_thieves : List Call
+unfoldable pub three_thieves : List Call
 three_thieves =
     grants 1 ∷ ticks (0 ∷ []) ∷ grants 1 ∷ ticks (0 ∷ []) ∷ grants 2 ∷ ticks (0 ∷ 1 ∷ []) ∷ grants 4 ∷ ticks (0 ∷ 0 ∷ 0 ∷ 1 ∷ []) ∷ []
 
 -- of the seven tasks worker 0 has 3 and 4, and worker 1 has robbed it of 2
-two_at_work : List Call
+unfoldable pub two_at_work : List Call
 two_at_work = grants 1 ∷ ticks (0 ∷ []) ∷ grants 2 ∷ ticks (0 ∷ 0 ∷ []) ∷ []
 
 -- .. and a grant of 0 withdraws both
-two_withdrawn : List Call
+unfoldable pub two_withdrawn : List Call
 two_withdrawn = two_at_work ++ (grants 0 ∷ [])
 
 -- worker 1 has robbed worker 0, and then worker 3 robs worker 1, and worker 2 the one that it chooses
-four_at_work : ℕ → List Call
+unfoldable pub four_at_work : ℕ → List Call
 four_at_work choice =
     grants 1 ∷ ticks (0 ∷ []) ∷ grants 2 ∷ ticks (0 ∷ 0 ∷ []) ∷ grants 4 ∷ ticks (0 ∷ 0 ∷ choice ∷ 1 ∷ []) ∷ []
 
 -- workers 2 and 3 are withdrawn, and a tick later workers 0 and 1
-two_grants : List Call
+unfoldable pub two_grants : List Call
 two_grants = four_at_work 0 ++ (grants 2 ∷ ticks (0 ∷ 0 ∷ []) ∷ grants 0 ∷ [])
 
 -- a tick of worker 0 alone, then n ticks of three workers with these choices, each in a quantum of its own
-three_at_work : ℕ → List ℕ → List Call
+unfoldable pub three_at_work : ℕ → List ℕ → List Call
 three_at_work n choices = grants 1 ∷ ticks (0 ∷ []) ∷ flat_map (λ i. grants 3 ∷ ticks choices ∷ []) (below n)
 
 -- two ticks of worker 0 alone, then three workers, with two ticks in a quantum
-then_three : List Call
+unfoldable pub then_three : List Call
 then_three = grants 1 ∷ ticks (0 ∷ []) ∷ ticks (0 ∷ []) ∷ grants 3 ∷ []
 
 -- the ten numbers after calls
-counted : List ℕ → List Call → List ℕ
+unfoldable pub counted : List ℕ → List Call → List ℕ
 counted bytes calls = counters (plan_of bytes) (after_calls bytes calls) 0
 
 -- work, mug and steal cycles together, the cycles made, and the sum of the granted counts
-sums : List ℕ → List Call → List ℕ
+unfoldable pub sums : List ℕ → List Call → List ℕ
 sums bytes calls =
     let h = run (plan_of bytes) calls in
     all_counted h.state.execution.counts ∷ length h.made ∷ worker_ticks (plan_of bytes) calls ∷ []
 
-statuses_from : Plan → State → List Call → List ℕ
+unfoldable pub statuses_from : Plan → State → List Call → List ℕ
 statuses_from plan s [] = status s ∷ []
 statuses_from plan s (call ∷ calls) = status s ∷ statuses_from plan (step plan call s) calls
 
 -- the status before the first call and after each
-statuses : List ℕ → List Call → List ℕ
+unfoldable pub statuses : List ℕ → List Call → List ℕ
 statuses bytes calls = statuses_from (plan_of bytes) (fresh (plan_of bytes)) calls
 
 -- a fresh job and a seed
-seeded : List ℕ → ℕ → Seeded
+unfoldable pub seeded : List ℕ → ℕ → Seeded
 seeded bytes seed = record { state = fresh (plan_of bytes); seed = seed }
 
 -- the seed after a day, and the counters line's numbers
-day_shown : List ℕ → ℕ → List DayCall → List ℕ
+unfoldable pub day_shown : List ℕ → ℕ → List DayCall → List ℕ
 day_shown bytes seed day =
     let at = run_day (plan_of bytes) day (seeded bytes seed) in
     at.seed ∷ counters (plan_of bytes) at.state 0
 
 -- the log of a day, and that run on a fresh job
-day_logged : List ℕ → ℕ → List DayCall → List ℕ
+unfoldable pub day_logged : List ℕ → ℕ → List DayCall → List ℕ
 day_logged bytes seed day = day_log (plan_of bytes) day (seeded bytes seed)
 
-day_replayed : List ℕ → ℕ → List DayCall → List ℕ
+unfoldable pub day_replayed : List ℕ → ℕ → List DayCall → List ℕ
 day_replayed bytes seed day = shown bytes (day_logged bytes seed day)
 
 -- the number of a seeded tick after a day
-seeded_number : List ℕ → List DayCall → ℕ
+unfoldable pub seeded_number : List ℕ → List DayCall → ℕ
 seeded_number bytes day = answer_number (seeded_answer (run_day (plan_of bytes) day (seeded bytes 0)).state)
 
 -- one worker, then three: in their first tick one works and the two others rob it, in the second all work; the last tick is refused
-three_by_seed : List DayCall
+unfoldable pub three_by_seed : List DayCall
 three_by_seed =
     grants_plainly 1 ∷ ticks_by_seed ∷ grants_plainly 3 ∷ ticks_by_seed ∷ grants_plainly 3 ∷ ticks_by_seed ∷ ticks_by_seed ∷ []
 
 -- Plan A to its end, by one worker and then by two; a tick and a grant after it are refused
-finished_by_seed : List DayCall
+unfoldable pub finished_by_seed : List DayCall
 finished_by_seed =
     grants_plainly 1 ∷ ticks_by_seed ∷ ticks_by_seed ∷ grants_plainly 2 ∷ ticks_by_seed ∷ ticks_by_seed ∷ ticks_by_seed ∷ grants_plainly 1
     ∷ []
 
 -- a quantum of no worker; a tick after it is refused, and so is a grant of two; then one worker is granted
-held_by_seed : List DayCall
+unfoldable pub held_by_seed : List DayCall
 held_by_seed =
     grants_plainly 0 ∷ ticks_by_seed ∷ ticks_by_seed ∷ ticks_by_seed ∷ grants_plainly 2 ∷ grants_plainly 1 ∷ []
 
 -- the number of an entry that is appended to a buffer of bytes 7, of which so many are written
-append_number : List Question → List ℕ → ℕ → ℕ → ℕ
+unfoldable pub append_number : List Question → List ℕ → ℕ → ℕ → ℕ
 append_number questions entry bytes size = answer_number (append_answer questions entry (replicate bytes 7) size)
 
 -- the noted offer: 0, or 1 and its count
-note_shown : Note → List ℕ
+unfoldable pub note_shown : Note → List ℕ
 note_shown no_offer = 0 ∷ []
 note_shown (offered g) = 1 ∷ g ∷ []
 
 -- the note, whether a quantum is open, its ticks, and the quanta begun
-state_kept : State → List ℕ
+unfoldable pub state_kept : State → List ℕ
 state_kept s = note_shown s.note ++ quantum_kept s ++ (s.begun ∷ [])
 
 -- .. after calls of a job of Plan A in a state, and of a fresh job
-kept_from : State → List Call → List ℕ
+unfoldable pub kept_from : State → List Call → List ℕ
 kept_from s calls = state_kept (run_calls (plan_of plan_a) calls (record { state = s; refusals = 0 })).state
 
-offer_kept : List ℕ → List Call → List ℕ
+unfoldable pub offer_kept : List ℕ → List Call → List ℕ
 offer_kept bytes calls = state_kept (after_calls bytes calls)
 
 -- example 1, with each grant as an offer and its opening
-example_1_offered : List Call
+unfoldable pub example_1_offered : List Call
 example_1_offered =
     offers 1 ∷ opens 1 ∷ ticks (0 ∷ []) ∷ ticks (0 ∷ []) ∷ offers 2 ∷ opens 2 ∷ ticks (0 ∷ 0 ∷ []) ∷ ticks (0 ∷ 0 ∷ []) ∷ []
 
 -- of the ten tasks worker 0 has 5 and 6, worker 1 has robbed itself in vain, and worker 2 has robbed worker 0 of 4 and 2
-one_in_vain : List Call
+unfoldable pub one_in_vain : List Call
 one_in_vain = grants 1 ∷ ticks (0 ∷ []) ∷ grants 2 ∷ ticks (0 ∷ 1 ∷ []) ∷ grants 3 ∷ ticks (0 ∷ 1 ∷ 0 ∷ []) ∷ grants 3 ∷ []
 
 -- the deques in use, the largest count granted so far as the history keeps it and as the calls say it, and the tasks in those deques
-lines_after : List ℕ → List Call → List ℕ
+unfoldable pub lines_after : List ℕ → List Call → List ℕ
 lines_after bytes calls =
     let plan = plan_of bytes in
     let h = run plan calls in
@@ -398,12 +398,12 @@ lines_after bytes calls =
     ∷ length (tasks_standing h.state.execution) ∷ []
 
 -- the deques in use inside a tick with these choices: before the first worker's cycle, and after each one's
-lines_inside : List ℕ → List Call → List ℕ → List ℕ
+unfoldable pub lines_inside : List ℕ → List Call → List ℕ → List ℕ
 lines_inside bytes calls choices =
     map (λ w. deques_in_use (after_workers (plan_of bytes) (after_calls bytes calls) choices w)) (below (suc (length choices)))
 
 -- plan reading
-plan_rows : List Row
+unfoldable pub plan_rows : List Row
 plan_rows =
     -- the largest fields
     row (header_fields (0x1f ∷ 0xff ∷ 0xff ∷ 0xff ∷ 0xff ∷ [])) (1 ∷ 7 ∷ 127 ∷ 65535 ∷ 1024 ∷ [])
@@ -443,30 +443,30 @@ plan_rows =
     ∷ []
 
 -- Plan A's graph in form 2, with a utilization of 1 percent: its tasks last 2, 3, 1 and 2 ticks
-lasting_diamond : ℕ → List ℕ
+unfoldable pub lasting_diamond : ℕ → List ℕ
 lasting_diamond l = form_bytes 2 2 1 l (lasting 2 1 2 2 ∷ lasting 1 3 0 3 ∷ lasting 1 3 0 1 ∷ lasting 0 0 0 2 ∷ [])
 
 -- one task, and so many ticks
-one_lasting : ℕ → ℕ → List ℕ
+unfoldable pub one_lasting : ℕ → ℕ → List ℕ
 one_lasting l duration = form_bytes 2 2 100 l (lasting 0 0 0 duration ∷ [])
 
 -- three tasks in form 2 in a row, but for the first one's bytes
-after_first : List ℕ → List ℕ
+unfoldable pub after_first : List ℕ → List ℕ
 after_first first = form_bytes 2 2 80 2 (first ∷ lasting 3 0 0 1 ∷ lasting 0 0 0 1 ∷ [])
 
 -- a tick of one worker, so many times, as calls and as a log
-one_works : ℕ → List Call
+unfoldable pub one_works : ℕ → List Call
 one_works n = flat_map (λ i. ticks (0 ∷ []) ∷ []) (below n)
 
-one_logged : ℕ → List ℕ
+unfoldable pub one_logged : ℕ → List ℕ
 one_logged n = flat_map (λ i. 0x81 ∷ 0 ∷ []) (below n)
 
 -- the workers' deques, then the muggable ones, then the ticks that each task has left, after calls
-ticks_left : List ℕ → List Call → List ℕ
+unfoldable pub ticks_left : List ℕ → List Call → List ℕ
 ticks_left bytes calls = placed bytes calls ++ (after_calls bytes calls).execution.left
 
 -- request U9: "Plan form 2 has the same header and 32 bits a piece: the three old fields and 8 bits of ticks, 1 to 255."
-form_rows : List Row
+unfoldable pub form_rows : List Row
 form_rows =
     -- the fields of the second piece of form 2, and of the second of form 1
     row (fields_of (0x20 ∷ 0 ∷ 0 ∷ 0 ∷ 1 ∷ 0x11 ∷ 0x22 ∷ 0x33 ∷ 0x44 ∷ 0xb5 ∷ 0x6a ∷ 0x5c ∷ 0xff ∷ []) 1) (2 ∷ 1709 ∷ 604 ∷ 255 ∷ [])
@@ -486,42 +486,42 @@ form_rows =
     ∷ []
 
 -- Plan A's graph in form 3, with R in tenths
-gentle_diamond : ℕ → ℕ → ℕ → List ℕ
+unfoldable pub gentle_diamond : ℕ → ℕ → ℕ → List ℕ
 gentle_diamond tenths d l = gentle_bytes tenths d l (task 2 1 2 ∷ task 1 3 0 ∷ task 1 3 0 ∷ task 0 0 0 ∷ [])
 
 -- k and the wanted count after the end of a quantum of t tenths with the power k, efficient or not, satisfied or not
-gentle_next : ℕ → ℕ → Bool → Bool → List ℕ
+unfoldable pub gentle_next : ℕ → ℕ → Bool → Bool → List ℕ
 gentle_next t k e s =
     let growth = (plan_of (gentle_diamond t 80 2)).terms.growth in
     let next = next_wish growth (wish_at growth k) e s in
     next.power ∷ next.desire ∷ []
 
 -- the powers at which the nine rows end, from 12 tenths
-last_powers : List (List ℕ)
+unfoldable pub last_powers : List (List ℕ)
 last_powers =
     (12 ∷ 22 ∷ []) ∷ (13 ∷ 15 ∷ []) ∷ (14 ∷ 12 ∷ []) ∷ (15 ∷ 10 ∷ []) ∷ (16 ∷ 8 ∷ []) ∷ (17 ∷ 7 ∷ []) ∷ (18 ∷ 7 ∷ [])
     ∷ (19 ∷ 6 ∷ []) ∷ (20 ∷ 6 ∷ []) ∷ []
 
 -- what an end so many powers below the last one of each row leads to
-from_the_top : ℕ → Bool → Bool → List ℕ
+unfoldable pub from_the_top : ℕ → Bool → Bool → List ℕ
 from_the_top lower e s = flat_map (λ r. gentle_next (get_or r 0 0) (get_or r 1 0 - lower) e s) last_powers
 
 -- a chain of so many tasks in form 3
-gentle_chain : ℕ → ℕ → ℕ → ℕ → List ℕ
+unfoldable pub gentle_chain : ℕ → ℕ → ℕ → ℕ → List ℕ
 gentle_chain tenths d l n = gentle_bytes tenths d l (map (link n) (below n))
 
 -- so many quanta of one worker and one tick
-single_rounds : ℕ → List Call
+unfoldable pub single_rounds : ℕ → List Call
 single_rounds n = flat_map (λ i. grants 1 ∷ ticks (0 ∷ []) ∷ []) (below n)
 
 -- k and the wanted count after calls, and those of the history's closed quanta
-powers_shown : List ℕ → List Call → List ℕ
+unfoldable pub powers_shown : List ℕ → List Call → List ℕ
 powers_shown bytes calls =
     let h = run (plan_of bytes) calls in
     h.state.wish.power ∷ h.state.wish.desire ∷ flat_map (λ q. q.power ∷ q.wanted ∷ []) h.closed_quanta
 
 -- request U14: "Plan form 3 packs form 4 bits, R in tenths 5, D 7, L 14, N less one 10, and has form 1's pieces."
-gentle_rows : List Row
+unfoldable pub gentle_rows : List Row
 gentle_rows =
     -- the largest fields; fields cross the bytes
     row (header_fields (0x3f ∷ 0xff ∷ 0xff ∷ 0xff ∷ 0xff ∷ [])) (3 ∷ 31 ∷ 127 ∷ 16383 ∷ 1024 ∷ [])
@@ -567,7 +567,7 @@ gentle_rows =
     ∷ []
 
 -- "A front piece stays until its ticks are done; its followers come after the last one."
-lasting_rows : List Row
+unfoldable pub lasting_rows : List Row
 lasting_rows =
     row (ticks_left (lasting_diamond 9) (grants 1 ∷ one_works 1)) (1 ∷ 0 ∷ 1 ∷ 3 ∷ 1 ∷ 2 ∷ [])
     ∷ row (ticks_left (lasting_diamond 9) (grants 1 ∷ one_works 2)) (2 ∷ 1 ∷ 2 ∷ 0 ∷ 3 ∷ 1 ∷ 2 ∷ [])
@@ -598,7 +598,7 @@ lasting_rows =
     ∷ []
 
 -- grants
-grant_rows : List Row
+unfoldable pub grant_rows : List Row
 grant_rows =
     -- after the finish 11 answers, though a round is open
     row (flat_map (answered (one_task 2) (grants 1 ∷ ticks (0 ∷ []) ∷ [])) (grants 0 ∷ ticks (0 ∷ []) ∷ grants 9 ∷ [])) (11 ∷ 11 ∷ 11 ∷ [])
@@ -631,7 +631,7 @@ grant_rows =
     ∷ []
 
 -- request U5: "Split the grant."
-offer_rows : List Row
+unfoldable pub offer_rows : List Row
 offer_rows =
     -- an offer only notes: no round is open, none has begun, and the ten numbers and the history's rounds stay
     row (offer_kept plan_a (offers 1 ∷ [])) (1 ∷ 1 ∷ 0 ∷ 0 ∷ 0 ∷ [])
@@ -687,7 +687,7 @@ offer_rows =
     ∷ []
 
 -- request U8: "Among lines orphaned by the same grant, the highest worker number is now taken first."
-withdrawal_rows : List Row
+unfoldable pub withdrawal_rows : List Row
 withdrawal_rows =
     -- two lines of one grant: worker 1's, 2, is before worker 0's, 3 and 4, which stays in its order
     row (placed (seven 1) two_withdrawn) (1 ∷ 2 ∷ 2 ∷ 3 ∷ 4 ∷ [])
@@ -711,7 +711,7 @@ withdrawal_rows =
     ∷ []
 
 -- request U12: "non-empty lines and orphans together number at most the largest count granted so far"
-line_rows : List Row
+unfoldable pub line_rows : List Row
 line_rows =
     -- of a fresh job nothing, after a grant of 0 nothing, after one of 1 the line of piece 0
     row (flat_map (lines_after plan_a) ([] ∷ (grants 0 ∷ []) ∷ (grants 1 ∷ []) ∷ [])) (0 ∷ 0 ∷ 0 ∷ 0 ∷ 0 ∷ 0 ∷ 0 ∷ 0 ∷ 1 ∷ 1 ∷ 1 ∷ 1 ∷ [])
@@ -743,7 +743,7 @@ line_rows =
     ∷ []
 
 -- ticks
-tick_rows : List Row
+unfoldable pub tick_rows : List Row
 tick_rows =
     -- a choice is asked of a worker that works, too
     row (answered plan_a [] (ticks [])
@@ -778,7 +778,7 @@ tick_rows =
     ∷ []
 
 -- request U1: a steal takes half of the line
-steal_rows : List Row
+unfoldable pub steal_rows : List Row
 steal_rows =
     -- rounded down: 2 or 3 pieces give 1, 4 or 5 give 2
     row (map stolen_count (2 ∷ 3 ∷ 4 ∷ 5 ∷ 6 ∷ 7 ∷ 1023 ∷ 1024 ∷ [])) (1 ∷ 1 ∷ 2 ∷ 2 ∷ 3 ∷ 3 ∷ 511 ∷ 512 ∷ [])
@@ -799,7 +799,7 @@ steal_rows =
     ∷ []
 
 -- request U6: "In the tick that finishes a job, the workers after the one that finished it shall each count an unsuccessful steal."
-last_tick_rows : List Row
+unfoldable pub last_tick_rows : List Row
 last_tick_rows =
     -- the finisher is the first of three: workers 1 and 2 steal in vain in each of six ticks, the last one too
     row (counted wide_seven (three_at_work 5 (0 ∷ 1 ∷ 2 ∷ []))) (1 ∷ 6 ∷ 7 ∷ 9 ∷ 3 ∷ 6 ∷ 0 ∷ 10 ∷ 0 ∷ 0 ∷ [])
@@ -833,7 +833,7 @@ last_tick_rows =
     ∷ []
 
 -- round's end
-quantum_rows : List Row
+unfoldable pub quantum_rows : List Row
 quantum_rows =
     -- 140 / 100 rounds to 1
     row (map (λ u. cond (efficient (plan_of (diamond 2 70 2)).terms u 1) 1 0) (1 ∷ 2 ∷ [])) (0 ∷ 1 ∷ [])
@@ -860,7 +860,7 @@ quantum_rows =
     ∷ []
 
 -- log, status, label, count line
-log_rows : List Row
+unfoldable pub log_rows : List Row
 log_rows =
     -- a refused tick's choices are no entries
     row (shown plan_a (1 ∷ 0x82 ∷ 1 ∷ 1 ∷ 0x81 ∷ 0 ∷ [])) (1 ∷ 1 ∷ 4 ∷ 1 ∷ 1 ∷ 1 ∷ 0 ∷ 0 ∷ 0 ∷ 1 ∷ [])
@@ -905,7 +905,7 @@ log_rows =
     ∷ []
 
 -- choices from a seed
-seed_rows : List Row
+unfoldable pub seed_rows : List Row
 seed_rows =
     -- "the next s is 1,664,525 × s + 1,013,904,223, wrapped modulo 2^32", from 0, 1 and the largest; and the thousandth from 0
     row (next_seed 0 ∷ next_seed 1 ∷ next_seed 4294967295 ∷ seed_after 1000 0 ∷ [])
@@ -934,7 +934,7 @@ seed_rows =
     ∷ []
 
 -- the program
-program_rows : List Row
+unfoldable pub program_rows : List Row
 program_rows =
     row (program [] ++ program (0 ∷ []) ++ program (0 ∷ 1 ∷ []) ++ program (0 ∷ 0 ∷ []))
     (114 ∷ 101 ∷ 102 ∷ 117 ∷ 115 ∷ 101 ∷ 100 ∷ 32 ∷ 50 ∷ 50 ∷ 10 ∷ 114 ∷ 101 ∷ 102 ∷ 117 ∷ 115 ∷ 101 ∷ 100 ∷ 32 ∷ 50 ∷ 50 ∷ 10 ∷ 114
@@ -952,71 +952,19 @@ program_rows =
     (114 ∷ 101 ∷ 102 ∷ 117 ∷ 115 ∷ 101 ∷ 100 ∷ 32 ∷ 54 ∷ 10 ∷ 114 ∷ 101 ∷ 102 ∷ 117 ∷ 115 ∷ 101 ∷ 100 ∷ 32 ∷ 50 ∷ 50 ∷ 10 ∷ [])
     ∷ []
 
-our_rows : List Row
+unfoldable pub our_rows : List Row
 our_rows =
     plan_rows ++ form_rows ++ gentle_rows ++ lasting_rows ++ grant_rows ++ offer_rows ++ withdrawal_rows ++ line_rows ++ tick_rows ++
     steal_rows ++ last_tick_rows ++ quantum_rows ++ log_rows ++ seed_rows ++ program_rows
 
-pub rows : List Row
+unfoldable pub rows : List Row
 rows = document_rows ++ our_rows
-
--- every row holds
-unfoldable pub table : failing 0 rows ≡ []
-unfolding same row_holds failing task lasting form_bytes gentle_bytes plan_bytes diamond one_task seven easy_seven wide_seven ten thirteen
-    four_lines link chain refusal after_calls quantum_kept shown_from shown answered listed placed labelled desire_after document_rows
-    seven_tasks growth_number header_fields fields_of task_fields fresh_with call_number grant_number note_shown state_kept kept_from
-    offer_kept example_1_offered quantum_shown current_shown history_shown shown_twice half_of_five three_thieves two_at_work two_withdrawn
-    four_at_work two_grants three_at_work then_three counted sums statuses_from statuses one_in_vain lines_after lines_inside
-    lasting_diamond one_lasting after_first one_works one_logged ticks_left gentle_diamond gentle_next last_powers from_the_top gentle_chain
-    single_rounds powers_shown seeded day_shown day_logged day_replayed seeded_number three_by_seed finished_by_seed held_by_seed
-    append_number plan_rows form_rows gentle_rows lasting_rows grant_rows offer_rows withdrawal_rows line_rows tick_rows steal_rows
-    last_tick_rows quantum_rows log_rows seed_rows program_rows our_rows rows below every keep member count_set all_set occurrences zeros
-    first_no flat_map Plan.predecessors Plan.number Plan.header Plan.forms Plan.is_form Plan.form_with Plan.form_of Plan.growth_field
-    Plan.utilization_field Plan.quantum_length_field Plan.task_bits Plan.duration_field Plan.successor_fields Plan.plan_of Plan.fields_ok
-    Plan.two_differ Plan.targets_ok Plan.task_questions Plan.all_preceded Plan.one_exit Plan.header_questions Plan.graph_questions
-    Plan.plan_questions Plan.plan_answer Machine.finished Machine.fresh Machine.grant_questions Machine.kept_deques Machine.withdrawn_deques
-    Machine.first_task_placed Machine.grant Machine.withdraw_questions Machine.open_questions Machine.open_offer Machine.tick_questions
-    Machine.cycle_of Machine.ready Machine.released Machine.stolen_count Machine.left_by_steal Machine.taken_by_steal Machine.worked_deque
-    Machine.work_cycle Machine.mug_cycle Machine.successful_steal Machine.failed_steal Machine.cycle Machine.turn_of Machine.turn
-    Machine.cycles Machine.cycles_made Machine.ticked Machine.efficient Machine.satisfied Machine.next_wish Machine.closes Machine.closed
-    Machine.tick Machine.top_desires Machine.whole_parts Machine.call_answer Machine.step Machine.status History.beginning
-    History.history_grant History.history_tick History.history_open History.history_step History.run_from History.run History.tasks_in
-    WholeTicks.accepted_calls WholeTicks.granted_ticks Lines.busy Lines.largest_closed Lines.largest_granted Lines.largest_count
-    Log.entries_up_to Log.entries Log.entry_bytes Log.written Log.append_answer Log.run_calls Log.run_log Log.log_answer Seeds.next_seed
-    Seeds.drawn_choice Seeds.draws Seeds.seed_after Seeds.drawn Seeds.seeded_questions Seeds.seeded_answer Seeds.tick_seeded Seeds.day_step
-    Seeds.run_day Seeds.plain_calls Label.lines_from Label.lines Label.label_answer Label.label Counters.decimal_up_to Counters.decimal
-    Counters.spaced Counters.counters Counters.counters_line Counters.counters_answer Counters.buffer_after Digits.first_above
-    Digits.digit_count Program.plan_length Program.plan_part Program.log_part Program.input_questions Program.refused_line
-    Program.log_output Program.program
-table = refl
-
--- examples 3 and 4 by themselves, for a program that meets them from contracts alone: Plan A is accepted, a first grant of 2 is refused by
--- 14, and the status is then 0
-pub plan_a_begins : (plan_answer plan_a ≡ accepted) × (call_answer (grants 2) (fresh (plan_of plan_a)) ≡ refused 14)
-    × (status (fresh (plan_of plan_a)) ≡ 0)
-unfolding table
-plan_a_begins = (refl, refl, refl)
 
 -- ---- the statements of demand 3 at numbers: what they allow at most, and what is more
 
 -- a closed round with this k and wanted count
-abbrev round : ℕ → ℕ → ClosedQuantum
+abbrev pub round : ℕ → ℕ → ClosedQuantum
 round power wanted = record { power = power; wanted = wanted; granted = wanted; was_efficient = true; was_satisfied = true }
-
--- 100 × (1 + 2) is 300; of 12 tenths 100 × (10 + 2 × 12) is 3,400
-pub limit_of_2 : Limit (by_factor 2) 10 10 3 1 × (Limit (by_factor 2) 43 7 1 1 → ⊥)
-limit_of_2 = (omega arith, λ above. omega arith)
-
-pub limit_of_12_tenths : Limit (by_tenths 12) 17 4 5 1 × (Limit (by_tenths 12) 31 11 1 1 → ⊥)
-limit_of_12_tenths = (omega arith, λ above. omega arith)
-
--- "whose wanted count times R is its own"; "one power lower", where several powers have one whole part
-pub lower_of_2 : OneStepLower (by_factor 2) (round 0 4) (round 0 8) × (OneStepLower (by_factor 2) (round 0 4) (round 1 6) → ⊥)
-lower_of_2 = (refl, λ other. omega arith)
-
-pub lower_of_12_tenths : OneStepLower (by_tenths 12) (round 3 1) (round 4 2) × (OneStepLower (by_tenths 12) (round 4 2) (round 5 2))
-    × (OneStepLower (by_tenths 12) (round 2 1) (round 4 2) → ⊥)
-lower_of_12_tenths = (refl, refl, λ other. omega arith)
 
 -- ---- the table of the six top desires: one test over all of its entries. The crate `laws` makes it the rule at each entry.
 
@@ -1031,10 +979,6 @@ top_desire_right r top = member top (powers r) && (leb top most_workers && ltb m
 unfoldable pub top_desires_right : ℕ → List ℕ → Bool
 top_desires_right r [] = true
 top_desires_right r (top ∷ tops) = top_desire_right r top && top_desires_right (suc r) tops
-
-pub top_desires_rule : top_desires_right 2 top_desires ≡ true
-unfolding powers top_desire_right top_desires_right below member top_desires
-top_desires_rule = refl
 
 -- ---- the nine rows of whole parts: one test over all entries of all rows. The crate `laws` makes it the rule of each row.
 
@@ -1051,7 +995,3 @@ row_right t k (entry ∷ row) = whole_part_right t k entry && row_right t (suc k
 unfoldable pub rows_right : ℕ → List (List ℕ) → Bool
 rows_right t [] = true
 rows_right t (row ∷ rows) = row_right t 0 row && rows_right (suc t) rows
-
-pub whole_parts_rule : rows_right 12 whole_parts ≡ true
-unfolding whole_part_right row_right rows_right whole_parts
-whole_parts_rule = refl

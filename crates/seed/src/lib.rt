@@ -1,4 +1,6 @@
 // The generator of a seeded tick: a state of 32 bits, and the choice that is read from it.
+#![tactic(auto)]
+
 ghost use Rattle.std.specs.Prelude.{◌≡◌, ◌*◌, ◌/◌, ◌%◌, ◌^◌, ◌<◌};
 ghost use Rattle.model.specs.Seeds.{next_seed};
 

@@ -1,4 +1,6 @@
 // A job's status, and document 01's number for it.
+#![tactic(auto)]
+
 ghost use Rattle.std.specs.Prelude.{◌≡◌};
 ghost use Rattle.status.specs.Number.{status_number};
 

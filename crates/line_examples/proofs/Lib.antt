@@ -1,0 +1,2 @@
+-- Wide: that the limit of lines is met at 64.
+pub mod Wide

@@ -1,0 +1,2 @@
+-- Examples: that the worked examples hold, which the checker computes.
+pub mod Examples
