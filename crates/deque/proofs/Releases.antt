@@ -214,7 +214,8 @@ less_at pending [] inside x = omega arith
 less_at pending (s ∷ ss) inside x = go (less_at pending ss (λ r m. inside r (Memᴰ.tail m)) x) (eqb x s) refl
   where
     go : get_or (each_less pending ss) x 0 ≡ get_or pending x 0 - occurrences x ss → (b : Bool) → eqb x s ≡ b →
-        get_or (set (each_less pending ss) s (get_or (each_less pending ss) s 0 - 1)) x 0 ≡ get_or pending x 0 - (cond b 1 0 + occurrences x ss)
+        get_or (set (each_less pending ss) s (get_or (each_less pending ss) s 0 - 1)) x 0
+        ≡ get_or pending x 0 - (cond b 1 0 + occurrences x ss)
     go onward true e =
         let same = eqb-true x s e in
         rw (sym same)

@@ -1,15 +1,13 @@
 -- That 64 lines, and 64 orphans, are had at once: the checker computes it. (In proofs/, so that an edit of a definition is refused by it.)
 -- Assumes nothing.
-use Rattle.std.specs.Prelude.{◌≡◌, refl, cond, ℕ, ◌+◌, ◌*◌, ◌/◌, ◌^◌, eqb, ltb, length, replicate}
-use mathlib.Core.List.{List, [], ◌∷◌, ◌++◌, map, flat_map}
-use Rattle.model.specs.Tests.{below}
+use Rattle.std.specs.Prelude.{◌≡◌, refl}
+use mathlib.Core.List.{[], ◌∷◌, ◌++◌, map}
 use Rattle.model.specs.Questions.{accepted}
-use Rattle.model.specs.Plan.{Plan, plan_of, plan_answer}
-use Rattle.model.specs.Machine.{Call, grants, ticks}
-use Rattle.model.specs.History.{History, run}
+use Rattle.model.specs.Plan.{plan_answer}
+use Rattle.model.specs.Machine.{grants}
+use Rattle.model.specs.History.{run}
 use Rattle.model.specs.WholeTicks.{after_workers}
-use Rattle.model.specs.Lines.{deques_in_use, largest_granted}
-use Rattle.model.specs.Examples.{task, plan_bytes}
+use Rattle.model.specs.Lines.{deques_in_use}
 use Rattle.model.proofs.Examples
 use Rattle.line_examples.specs.Wide.{wide, doubled, choices_of, lines_of, wide_plan}
 

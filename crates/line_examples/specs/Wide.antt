@@ -1,13 +1,11 @@
 -- A plan with which 64 lines, and 64 orphans, are had at once: a worker works the first of 191 tasks, and then each tick has twice as many
 -- workers, of which each new one robs one of the others. So the limit of request U12 is met at 64. The checker computes it.
-use Rattle.std.specs.Prelude.{◌≡◌, refl, cond, ℕ, ◌+◌, ◌*◌, ◌/◌, ◌^◌, eqb, ltb, length, replicate}
+use Rattle.std.specs.Prelude.{cond, ℕ, ◌+◌, ◌*◌, ◌/◌, ◌^◌, eqb, ltb, length, replicate}
 use mathlib.Core.List.{List, [], ◌∷◌, ◌++◌, map, flat_map}
 use Rattle.model.specs.Tests.{below}
-use Rattle.model.specs.Questions.{accepted}
-use Rattle.model.specs.Plan.{Plan, plan_of, plan_answer}
+use Rattle.model.specs.Plan.{Plan, plan_of}
 use Rattle.model.specs.Machine.{Call, grants, ticks}
-use Rattle.model.specs.History.{History, run}
-use Rattle.model.specs.WholeTicks.{after_workers}
+use Rattle.model.specs.History.{History}
 use Rattle.model.specs.Lines.{deques_in_use, largest_granted}
 use Rattle.model.specs.Examples.{task, plan_bytes}
 

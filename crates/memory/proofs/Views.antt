@@ -70,7 +70,8 @@ pub tasks_shown : (first second : List ℕ) (n : ℕ) → length (successors_vie
 unfolding successors_view
 tasks_shown first second n = table_length (successors_at first second) n
 
-pub successors_shown : (first second : List ℕ) (n t : ℕ) → t < n → get_or (successors_view first second n) t [] ≡ successors_at first second t
+pub successors_shown : (first second : List ℕ) (n t : ℕ) → t < n → get_or (successors_view first second n) t []
+≡ successors_at first second t
 unfolding successors_view
 successors_shown first second n t h = table_at (successors_at first second) n t [] h
 

@@ -1,10 +1,10 @@
 -- That the rows of examples hold: the checker computes every one. Below them the statements of demand 3 at numbers, and the tests of the two
 -- tables, which the crate `laws` makes rules. (In proofs/, so that an edit of a definition is refused by them.)
 -- Assumes nothing.
-use Rattle.std.specs.Prelude.{◌≡◌, refl, Bool, true, false, cond, ◌&&◌, ℕ, suc, ◌+◌, ◌*◌, ◌-◌, ◌/◌, ◌%◌, ◌^◌, leb, ltb, eqb, length, get_or, take, drop, replicate}
-use mathlib.Core.List.{List, [], ◌∷◌, ◌++◌, map, flat_map}
+use Rattle.std.specs.Prelude.{◌≡◌, refl, true}
+use mathlib.Core.List.{[], flat_map}
 use Rattle.model.specs.Tests.{below, every, keep, member, count_set, all_set, occurrences, zeros}
-use Rattle.model.specs.Questions.{Question, accepted, refused, answer_number, first_no}
+use Rattle.model.specs.Questions.{accepted, refused, first_no}
 use Rattle.model.specs.Plan
 use Rattle.model.specs.Plan.{Growth, by_factor, by_tenths, Plan, plan_of, plan_answer, form_field, growth_field, utilization_field}
 use Rattle.model.specs.Plan.{quantum_length_field, task_count, count_field, first_field, second_field, duration_field}
@@ -33,7 +33,20 @@ use Rattle.model.specs.Digits
 use Rattle.model.specs.Digits.{digit_count, line_size}
 use Rattle.model.specs.Program
 use Rattle.model.specs.Program.{program}
-use Rattle.model.specs.Examples.{Row, row, same, row_holds, failing, plan_a, task, lasting, form_bytes, gentle_bytes, plan_bytes, diamond, one_task, seven_tasks, seven, easy_seven, wide_seven, ten, thirteen, four_lines, link, chain, refusal, after_calls, quantum_kept, shown_from, shown, answered, listed, placed, labelled, log_1, desire_after, document_rows, growth_number, header_fields, fields_of, task_fields, fresh_with, call_number, grant_number, quantum_shown, current_shown, history_shown, shown_twice, half_of_five, three_thieves, two_at_work, two_withdrawn, four_at_work, two_grants, three_at_work, then_three, counted, sums, statuses_from, statuses, seeded, day_shown, day_logged, day_replayed, seeded_number, three_by_seed, finished_by_seed, held_by_seed, append_number, note_shown, state_kept, kept_from, offer_kept, example_1_offered, one_in_vain, lines_after, lines_inside, plan_rows, lasting_diamond, one_lasting, after_first, one_works, one_logged, ticks_left, form_rows, gentle_diamond, gentle_next, last_powers, from_the_top, gentle_chain, single_rounds, powers_shown, gentle_rows, lasting_rows, grant_rows, offer_rows, withdrawal_rows, line_rows, tick_rows, steal_rows, last_tick_rows, quantum_rows, log_rows, seed_rows, program_rows, our_rows, rows, round, powers, top_desire_right, top_desires_right, whole_part_right, row_right, rows_right}
+use Rattle.model.specs.Examples.{same, row_holds, failing, plan_a, task, lasting, form_bytes, gentle_bytes, plan_bytes, diamond, one_task}
+use Rattle.model.specs.Examples.{seven_tasks, seven, easy_seven, wide_seven, ten, thirteen, four_lines, link, chain, refusal, after_calls}
+use Rattle.model.specs.Examples.{quantum_kept, shown_from, shown, answered, listed, placed, labelled, desire_after, document_rows}
+use Rattle.model.specs.Examples.{growth_number, header_fields, fields_of, task_fields, fresh_with, call_number, grant_number}
+use Rattle.model.specs.Examples.{quantum_shown, current_shown, history_shown, shown_twice, half_of_five, three_thieves, two_at_work}
+use Rattle.model.specs.Examples.{two_withdrawn, four_at_work, two_grants, three_at_work, then_three, counted, sums, statuses_from}
+use Rattle.model.specs.Examples.{statuses, seeded, day_shown, day_logged, day_replayed, seeded_number, three_by_seed, finished_by_seed}
+use Rattle.model.specs.Examples.{held_by_seed, append_number, note_shown, state_kept, kept_from, offer_kept, example_1_offered}
+use Rattle.model.specs.Examples.{one_in_vain, lines_after, lines_inside, plan_rows, lasting_diamond, one_lasting, after_first, one_works}
+use Rattle.model.specs.Examples.{one_logged, ticks_left, form_rows, gentle_diamond, gentle_next, last_powers, from_the_top, gentle_chain}
+use Rattle.model.specs.Examples.{single_rounds, powers_shown, gentle_rows, lasting_rows, grant_rows, offer_rows, withdrawal_rows}
+use Rattle.model.specs.Examples.{line_rows, tick_rows, steal_rows, last_tick_rows, quantum_rows, log_rows, seed_rows, program_rows}
+use Rattle.model.specs.Examples.{our_rows, rows, round, powers, top_desire_right, top_desires_right, whole_part_right, row_right}
+use Rattle.model.specs.Examples.{rows_right}
 
 -- every row holds
 unfoldable pub table : failing 0 rows ≡ []

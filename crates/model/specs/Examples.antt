@@ -1,35 +1,22 @@
 -- Document 01's P examples, and rows of our own that tell misreadings apart, as one table. The checker computes every row.
-use Rattle.std.specs.Prelude.{◌≡◌, refl, Bool, true, false, cond, ◌&&◌, ℕ, suc, ◌+◌, ◌*◌, ◌-◌, ◌/◌, ◌%◌, ◌^◌, leb, ltb, eqb, length, get_or, take, drop, replicate}
+use Rattle.std.specs.Prelude.{Bool, true, false, cond, ◌&&◌, ℕ, suc, ◌+◌, ◌*◌, ◌-◌, ◌/◌, ◌%◌, ◌^◌, leb, ltb, eqb, length, get_or, take, drop, replicate}
 use mathlib.Core.List.{List, [], ◌∷◌, ◌++◌, map, flat_map}
-use Rattle.model.specs.Tests.{below, every, keep, member, count_set, all_set, occurrences, zeros}
-use Rattle.model.specs.Questions.{Question, accepted, refused, answer_number, first_no}
-use Rattle.model.specs.Plan
+use Rattle.model.specs.Tests.{below, keep, member}
+use Rattle.model.specs.Questions.{Question, answer_number}
 use Rattle.model.specs.Plan.{Growth, by_factor, by_tenths, Plan, plan_of, plan_answer, form_field, growth_field, utilization_field}
 use Rattle.model.specs.Plan.{quantum_length_field, task_count, count_field, first_field, second_field, duration_field}
-use Rattle.model.specs.Machine
 use Rattle.model.specs.Machine.{State, Note, no_offer, offered, with_note, Call, grants, ticks, offers, opens, withdraws, call_answer}
 use Rattle.model.specs.Machine.{step, fresh, status, no_quantum_open, ticks_of, stolen_count, efficient, next_wish, wish_at}
 use Rattle.model.specs.Machine.{top_desires, whole_parts, desire_at, most_workers}
-use Rattle.std.proofs.Common.{arith}
-use Rattle.model.specs.Statements.{Limit, OneStepLower}
-use Rattle.model.specs.History
 use Rattle.model.specs.History.{ClosedQuantum, CurrentQuantum, none, begun_with, run, work_order, ticks_done}
-use Rattle.model.specs.WholeTicks
 use Rattle.model.specs.WholeTicks.{all_counted, accepted_calls, worker_ticks, after_workers}
-use Rattle.model.specs.Lines
 use Rattle.model.specs.Lines.{deques_in_use, tasks_standing, largest_granted, largest_count}
-use Rattle.model.specs.Log
 use Rattle.model.specs.Log.{run_log, run_calls, log_answer, entry_bytes, append_answer, grant_sayable, tick_sayable, appended}
-use Rattle.model.specs.Seeds
 use Rattle.model.specs.Seeds.{next_seed, draws, seed_after, Seeded, seeded_answer, DayCall, grants_plainly, ticks_by_seed, run_day}
 use Rattle.model.specs.Seeds.{day_log}
-use Rattle.model.specs.Label
 use Rattle.model.specs.Label.{label, label_answer, bytes_of}
-use Rattle.model.specs.Counters
 use Rattle.model.specs.Counters.{decimal, counters, counters_line, buffer_after, counters_answer}
-use Rattle.model.specs.Digits
 use Rattle.model.specs.Digits.{digit_count, line_size}
-use Rattle.model.specs.Program
 use Rattle.model.specs.Program.{program}
 
 -- ---- a table and its test

@@ -13,7 +13,7 @@ use lib.ListN.{length, get_or, set, drop, replicate, length-set, length-replicat
 use lib.Seq.{get_or-set_same, get_or-set_other, ext_get_or}
 use Rattle.model.specs.Tests.{below, every, keep, is_empty, member}
 use Rattle.model.specs.Questions.{first_no}
-use Rattle.model.specs.Plan.{tasks, successors_of, predecessors, form_of, header, growth_field, utilization_field, task_count}
+use Rattle.model.specs.Plan.{successors_of, predecessors, form_of, header, growth_field, utilization_field, task_count}
 use Rattle.model.specs.Plan.{quantum_length_field, growth_field_of, utilization_field_of, quantum_length_field_of}
 use Rattle.model.specs.Plan.{count_field, first_field, second_field, used_fields, successor_fields, plan_of, task_questions, all_preceded}
 use Rattle.model.specs.Plan.{one_exit, duration_field}

@@ -1,4 +1,6 @@
 // A plan's bytes become the plan, or the number of the first question whose answer is no. Nothing is asked of the bytes.
+#![tactic(auto)]
+
 ghost use Rattle.std.specs.Prelude.{◌≡◌, ◌+◌, ◌-◌, ◌^◌, ◌≤◌, ◌<◌, get_or, drop};
 ghost use Rattle.model.specs.Tests.{below, every};
 ghost use Rattle.memory.specs.Parts.{parts, parts_before, parts_after, with_pending};

@@ -1,4 +1,6 @@
 // The fields of a plan's header and of a task, taken from their bytes, and the questions that are asked of them: 2 to 8, and 28.
+#![tactic(auto)]
+
 ghost use Rattle.std.specs.Prelude.{◌≡◌, cond, ◌&&◌, ◌+◌, ◌*◌, ◌/◌, ◌%◌, ◌≤◌, leb, eqb};
 ghost use Rattle.model.specs.Questions.{first_no, answer_number};
 ghost use Rattle.model.specs.Plan.{form_1, form_2, forms, is_form, form_with, growth_with, growth_ok, field};

@@ -10,14 +10,17 @@ withdraw-waiting-requires c =
 
 pub returns-then-started-ne0 : goal.returns-then-started-ne0
 returns-then-started-ne0 c =
-    granted_later c.requires (c.withdraw-waiting.ensures.joined, c.withdraw-waiting.ensures.rest) (c.clear.ensures.cleared, c.clear.ensures.rest) c.if-started-ne0.true refl
+    granted_later c.requires (c.withdraw-waiting.ensures.joined, c.withdraw-waiting.ensures.rest) (c.clear.ensures.cleared,
+    c.clear.ensures.rest) c.if-started-ne0.true refl
 
 pub returns-then-g-eq0 : goal.returns-then-g-eq0
 returns-then-g-eq0 c =
-    granted_nothing c.requires (c.withdraw-waiting.ensures.joined, c.withdraw-waiting.ensures.rest) (c.clear.ensures.cleared, c.clear.ensures.rest) c.if-started-ne0.false c.if-g-eq0.true refl
+    granted_nothing c.requires (c.withdraw-waiting.ensures.joined, c.withdraw-waiting.ensures.rest) (c.clear.ensures.cleared,
+    c.clear.ensures.rest) c.if-started-ne0.false c.if-g-eq0.true refl
 
 pub returns : goal.returns
 returns c =
-    granted_first c.requires (c.withdraw-waiting.ensures.joined, c.withdraw-waiting.ensures.rest) (c.clear.ensures.cleared, c.clear.ensures.rest)
+    granted_first c.requires (c.withdraw-waiting.ensures.joined, c.withdraw-waiting.ensures.rest) (c.clear.ensures.cleared,
+    c.clear.ensures.rest)
     c.if-started-ne0.false c.if-g-eq0.false
     c.put.ensures

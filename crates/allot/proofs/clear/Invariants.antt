@@ -7,7 +7,8 @@ use Rattle.allot.proofs.Clears.{Clearing, clearing_none, clearing_more, clearing
 use Rattle.allot.proofs.clear.Given as goal
 
 abbrev pub invariant-loop-worker : goal.invariant-loop-worker
-invariant-loop-worker l = Clearing (parts l.initial.memory).ends l.workers l.g (parts l.memory).ends l.worker × SameButEnds (parts l.initial.memory) (parts l.memory)
+invariant-loop-worker l = Clearing (parts l.initial.memory).ends l.workers l.g (parts l.memory).ends l.worker × SameButEnds (parts
+l.initial.memory) (parts l.memory)
 
 abbrev pub decreases-loop-worker : goal.decreases-loop-worker
 decreases-loop-worker l = l.g - l.worker

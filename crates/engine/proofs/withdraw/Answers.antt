@@ -15,12 +15,16 @@ use Rattle.engine.proofs.withdraw.Goals as goal
 
 pub returns-in_default : goal.returns-in_default
 returns-in_default c =
-    let answered : (memory : List ℕ) → IsJob (lent memory (c.args.words.now)) → answer_of c.withdraw_answer-answer.result ≡ call_answer withdraws (job_state (lent memory (c.args.words.now))) = λ memory is_job. c.withdraw_answer-answer.ensures ∙ sym (withdraw_asking (lent memory (c.args.words.now))) in
+    let answered : (memory : List ℕ) → IsJob (lent memory (c.args.words.now)) → answer_of c.withdraw_answer-answer.result
+    ≡ call_answer withdraws (job_state (lent memory (c.args.words.now))) = λ memory is_job. c.withdraw_answer-answer.ensures
+    ∙ sym (withdraw_asking (lent memory (c.args.words.now))) in
     refused_words _ c.withdraw_answer-answer.result answered (refusing _ c.in_default.not-Accepted)
 
 pub returns : goal.returns
 returns c =
-    let answered : (memory : List ℕ) → IsJob (lent memory (c.args.words.now)) → answer_of c.withdraw_answer-answer.result ≡ call_answer withdraws (job_state (lent memory (c.args.words.now))) = λ memory is_job. c.withdraw_answer-answer.ensures ∙ sym (withdraw_asking (lent memory (c.args.words.now))) in
+    let answered : (memory : List ℕ) → IsJob (lent memory (c.args.words.now)) → answer_of c.withdraw_answer-answer.result
+    ≡ call_answer withdraws (job_state (lent memory (c.args.words.now))) = λ memory is_job. c.withdraw_answer-answer.ensures
+    ∙ sym (withdraw_asking (lent memory (c.args.words.now))) in
     record {
       answered = answered;
       moves = λ memory is_job.

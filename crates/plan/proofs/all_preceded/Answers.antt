@@ -1,11 +1,7 @@
 -- `plan::all_preceded` meets its contract. The loop's invariant: `all` is the test of every task from 1 that was passed.
 use mathlib.Core.Path.{◌≡◌, refl}
-use Prim.Native.Nat.{◌≤◌, ◌-◌}
 use native.Mathlib.Omega.{arith}
-use lib.ListN.{drop}
 use Rattle.model.specs.Tests.{below, every}
-use Rattle.memory.specs.Parts.{parts}
-use Rattle.plan.specs.Reads.{one_or_two}
 use Rattle.plan.proofs.Stores.{more_preceded}
 use Rattle.plan.proofs.all_preceded.Goals as goal
 

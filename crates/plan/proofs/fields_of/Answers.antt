@@ -1,5 +1,4 @@
 -- `plan::fields_of` meets its contract: the laws of Forms, at the bytes that were read.
-use borrow.Author.Rules.{rules}
 use Prim.Native.Nat.{◌≤◌}
 use native.Mathlib.Omega.{arith}
 use Rattle.plan.proofs.Forms.{three_or_more, of_four, of_three}

@@ -1,5 +1,4 @@
 -- `plan::note` meets its contract.
-use borrow.Author.Rules.{rules}
 use native.Mathlib.Omega.{arith}
 use Rattle.memory.proofs.Regions.{pending_at}
 use Rattle.plan.proofs.Stores.{noted_stored}

@@ -1,11 +1,9 @@
 -- `plan::one_exit` meets its contract. The loop's invariant: `all` is the test of every task that was passed.
-use mathlib.Core.Path.{◌≡◌, refl}
+use mathlib.Core.Path.{◌≡◌}
 use Prim.Native.Nat.{◌+◌, ◌≤◌, ◌-◌}
-use native.Mathlib.Omega.{arith}
 use Rattle.model.specs.Tests.{below, every}
 use Rattle.memory.specs.Parts.{parts}
 use Rattle.plan.specs.Reads.{followed}
-use Rattle.plan.proofs.Stores.{more_followed}
 use Rattle.plan.proofs.one_exit.Given as goal
 
 abbrev pub invariant-loop-t : goal.invariant-loop-t

@@ -1,7 +1,5 @@
 -- `plan::read_into` meets its contract: the laws of Answered, at the header that was read. What was read into memory of its own is in the
 -- lent one on acceptance, and a refusal leaves that.
-use borrow.Author.Rules.{rules}
-use borrow.Author.Tests.{not-true, not-false}
 use native.Mathlib.Omega.{arith}
 use mathlib.Core.Path.{refl, sym, ◌∙◌}
 use Rattle.plan.specs.Reads.{no_memory}

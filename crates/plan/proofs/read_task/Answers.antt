@@ -1,10 +1,6 @@
 -- `plan::read_task` meets its contract: the laws of Steps, at the fields that were read.
-use borrow.Author.Rules.{rules}
-use mathlib.Core.Path.{◌≡◌, sym, ◌∙◌}
-use Prim.Native.Nat.{◌<◌}
+use mathlib.Core.Path.{sym, ◌∙◌}
 use native.Mathlib.Omega.{arith}
-use mathlib.Core.Bool.{true}
-use Rattle.plan_fields.specs.Answers.{answer_of, passes}
 use Rattle.plan.proofs.Forms.{task_there}
 use Rattle.plan.proofs.Steps.{room, room_after, read_refused, read_passed, first_small, second_small}
 use Rattle.plan.proofs.Stores.{fields_stored}

@@ -1,10 +1,6 @@
 -- `plan::read_tasks` meets its contract. The loop's invariant: the tasks below t are read and accepted.
-use Prim.Native.Nat.{◌≤◌, ◌-◌}
 use mathlib.Core.Path.{sym, ◌∙◌}
 use native.Mathlib.Omega.{arith}
-use borrow.Author.Rules.{rules}
-use Rattle.memory.specs.Parts.{parts}
-use Rattle.plan.specs.Reads.{Due}
 use Rattle.plan_fields.proofs.Answers.{passes_is}
 use Rattle.plan.proofs.Steps.{tasks_refused, tasks_all}
 use Rattle.plan.proofs.read_tasks.Goals as goal

@@ -1,5 +1,4 @@
 -- `plan_fields::fields_answer` meets its contract: each way out is a law of Refusals.
-use borrow.Author.Rules.{rules}
 use native.Mathlib.Omega.{arith}
 use Rattle.plan_fields.proofs.Refusals.{fitting, two_unfit, one_unfit, no_7_count, no_7_second, no_7_first, none}
 use Rattle.plan_fields.proofs.fields_answer.Goals as goal

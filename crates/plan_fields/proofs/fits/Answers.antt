@@ -1,5 +1,4 @@
 -- `plan_fields::fits` meets its contract.
-use borrow.Author.Rules.{rules}
 use lib.Dec.{eqb}
 use Rattle.plan_fields.proofs.Refusals.{bit_small, fits_asked}
 use Rattle.plan_fields.proofs.fits.Goals as goal

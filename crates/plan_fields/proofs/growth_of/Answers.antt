@@ -1,5 +1,4 @@
 -- `plan_fields::growth_of` meets its contract: by the form.
-use borrow.Author.Rules.{rules}
 use Rattle.plan_fields.proofs.Headers.{by_gentle, by_plain}
 use Rattle.plan_fields.proofs.growth_of.Goals as goal
 

@@ -1,6 +1,4 @@
 -- `plan_fields::header_answer` meets its contract: each way out is a law of Refusals, and its tests give the law's facts.
-use borrow.Author.Rules.{rules}
-use borrow.Author.Tests.{not-true, not-false}
 use mathlib.Core.Path.{◌≡◌, sym, ◌∙◌}
 use mathlib.Core.Bool.{true}
 use Prim.Native.Nat.{◌*◌, ◌≤◌}
@@ -33,31 +31,36 @@ returns-then-not-growth_ok c =
 pub returns-then-h-lt1 : goal.returns-then-h-lt1
 returns-then-h-lt1 c =
     let known : is_form c.args.h.form forms ≡ true = sym c.known_form.ensures ∙ c.if-not-known_form.false in
-    let right_growth : growth_ok (growth_with c.args.h.in_tenths c.args.h.responsiveness) ≡ true = sym c.growth_ok.ensures ∙ c.if-not-growth_ok.false in
+    let right_growth : growth_ok (growth_with c.args.h.in_tenths c.args.h.responsiveness) ≡ true = sym c.growth_ok.ensures
+    ∙ c.if-not-growth_ok.false in
     no_4_low _ _ _ _ _ _ known right_growth (omega arith)
 
 pub returns-then-h-gt100 : goal.returns-then-h-gt100
 returns-then-h-gt100 c =
     let known : is_form c.args.h.form forms ≡ true = sym c.known_form.ensures ∙ c.if-not-known_form.false in
-    let right_growth : growth_ok (growth_with c.args.h.in_tenths c.args.h.responsiveness) ≡ true = sym c.growth_ok.ensures ∙ c.if-not-growth_ok.false in
+    let right_growth : growth_ok (growth_with c.args.h.in_tenths c.args.h.responsiveness) ≡ true = sym c.growth_ok.ensures
+    ∙ c.if-not-growth_ok.false in
     no_4_high _ _ _ _ _ _ known right_growth (omega arith) (omega arith)
 
 pub returns-then-h-lt1-2 : goal.returns-then-h-lt1-2
 returns-then-h-lt1-2 c =
     let known : is_form c.args.h.form forms ≡ true = sym c.known_form.ensures ∙ c.if-not-known_form.false in
-    let right_growth : growth_ok (growth_with c.args.h.in_tenths c.args.h.responsiveness) ≡ true = sym c.growth_ok.ensures ∙ c.if-not-growth_ok.false in
+    let right_growth : growth_ok (growth_with c.args.h.in_tenths c.args.h.responsiveness) ≡ true = sym c.growth_ok.ensures
+    ∙ c.if-not-growth_ok.false in
     no_5 _ _ _ _ _ _ known right_growth (omega arith) (omega arith) (omega arith)
 
 pub returns-then-size-whole : goal.returns-then-size-whole
 returns-then-size-whole c =
     let known : is_form c.args.h.form forms ≡ true = sym c.known_form.ensures ∙ c.if-not-known_form.false in
-    let right_growth : growth_ok (growth_with c.args.h.in_tenths c.args.h.responsiveness) ≡ true = sym c.growth_ok.ensures ∙ c.if-not-growth_ok.false in
+    let right_growth : growth_ok (growth_with c.args.h.in_tenths c.args.h.responsiveness) ≡ true = sym c.growth_ok.ensures
+    ∙ c.if-not-growth_ok.false in
     no_6 _ _ _ _ _ _ known right_growth (omega arith) (omega arith) (omega arith)
     (rw (← c.task_bytes.ensures) c.if-size-whole.true)
 
 pub returns : goal.returns
 returns c =
     let known : is_form c.args.h.form forms ≡ true = sym c.known_form.ensures ∙ c.if-not-known_form.false in
-    let right_growth : growth_ok (growth_with c.args.h.in_tenths c.args.h.responsiveness) ≡ true = sym c.growth_ok.ensures ∙ c.if-not-growth_ok.false in
+    let right_growth : growth_ok (growth_with c.args.h.in_tenths c.args.h.responsiveness) ≡ true = sym c.growth_ok.ensures
+    ∙ c.if-not-growth_ok.false in
     yes_to_6 _ _ _ _ _ _ known right_growth (omega arith) (omega arith) (omega arith)
     (rw (← c.task_bytes.ensures) c.if-size-whole.false)

@@ -1,5 +1,4 @@
 -- `plan_fields::header_of` meets its contract: the law of Headers, at the bytes.
-use borrow.Author.Rules.{rules}
 use Rattle.plan_fields.proofs.Headers.{header_taken}
 use Rattle.plan_fields.proofs.header_of.Goals as goal
 

@@ -1,5 +1,4 @@
 -- `plan_fields::task_answer` meets its contract: 28 is asked where 7 and 8 pass.
-use borrow.Author.Rules.{rules}
 use mathlib.Core.Path.{sym, ◌∙◌}
 use Rattle.plan_fields.proofs.Refusals.{no_7_or_8, no_28, yes_to_28}
 use Rattle.plan_fields.proofs.task_answer.Goals as goal

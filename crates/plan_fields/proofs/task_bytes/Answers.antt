@@ -1,6 +1,5 @@
 -- `plan_fields::task_bytes` meets its contract: the bytes are those of the table.
 use mathlib.Core.Path.{sym, ◌∙◌}
-use borrow.Author.Rules.{rules}
 use Rattle.plan_fields.proofs.Forms.{four_for_2, three_for_others, none_for_unknown}
 use Rattle.plan_fields.proofs.task_bytes.Goals as goal
 

@@ -1,5 +1,4 @@
 -- `plan_fields::utilization_of` meets its contract: by the form.
-use borrow.Author.Rules.{rules}
 use Rattle.plan_fields.proofs.Headers.{by_gentle, by_plain}
 use Rattle.plan_fields.proofs.utilization_of.Goals as goal
 

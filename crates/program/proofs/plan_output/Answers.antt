@@ -15,16 +15,19 @@ returns-then-not-passed c =
 
 pub run-ran-requires : goal.run-ran-requires
 run-ran-requires c =
-    let yes : plan_answer c.args.plan.now ≡ accepted = accepted_plan _ _ _ c.accept-answer.ensures.answered c.passed.ensures c.if-not-passed.false in
+    let yes : plan_answer c.args.plan.now ≡ accepted =
+    accepted_plan _ _ _ c.accept-answer.ensures.answered c.passed.ensures c.if-not-passed.false in
     its_job c.accept-answer.ensures.accepts yes
 
 pub ran_output-requires : goal.ran_output-requires
 ran_output-requires c =
-    let yes : plan_answer c.args.plan.now ≡ accepted = accepted_plan _ _ _ c.accept-answer.ensures.answered c.passed.ensures c.if-not-passed.false in
+    let yes : plan_answer c.args.plan.now ≡ accepted =
+    accepted_plan _ _ _ c.accept-answer.ensures.answered c.passed.ensures c.if-not-passed.false in
     (_, job_left c.accept-answer.ensures.accepts yes c.run-ran.ensures.runs)
 
 pub returns : goal.returns
 returns c =
-    let yes : plan_answer c.args.plan.now ≡ accepted = accepted_plan _ _ _ c.accept-answer.ensures.answered c.passed.ensures c.if-not-passed.false in
+    let yes : plan_answer c.args.plan.now ≡ accepted =
+    accepted_plan _ _ _ c.accept-answer.ensures.answered c.passed.ensures c.if-not-passed.false in
     after_plan _ _ _ yes
     (log_printed c.accept-answer.ensures.accepts yes c.run-ran.ensures.runs c.run-ran.ensures.answered c.ran_output.ensures)

@@ -23,4 +23,5 @@ put_field-requires c =
 
 pub returns : goal.returns
 returns c =
-    let s = c.args in record { next = omega (arith, c.put_field.ensures.next, refused_long s.number); bytes = c.put_field.ensures.bytes ∙ ap (λ (l : List ℕ). sets l (s.at + 8) (field s.number 10)) c.put_bytes.ensures ∙ refusal_put s.at s.number s.out.now }
+    let s = c.args in record { next = omega (arith, c.put_field.ensures.next, refused_long s.number); bytes = c.put_field.ensures.bytes
+    ∙ ap (λ (l : List ℕ). sets l (s.at + 8) (field s.number 10)) c.put_bytes.ensures ∙ refusal_put s.at s.number s.out.now }

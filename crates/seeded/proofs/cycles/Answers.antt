@@ -56,19 +56,27 @@ bounds-memory-size_at c =
 pub work_cycle-completed-requires : goal.work_cycle-completed-requires
 work_cycle-completed-requires c =
     let among : c.loop-w.w < (numbers_in c.args.words.now).workers = c.loop-w-test.true in
-    let each : c.loop-w.w < length (choices_for c.args.words.now c.args.seed) = omega (arith, among, one_each c.args.words.now c.args.seed) in
+    let each : c.loop-w.w < length (choices_for c.args.words.now c.args.seed) = omega (arith, among,
+    one_each c.args.words.now c.args.seed) in
     let few : (numbers_in c.args.words.now).workers < 65 = omega (arith, few_workers c.requires) in
-    let own_size : let here = c.loop-w in get_or here.memory (4096 + size_at here.w) 0 ≡ get_or (parts here.memory).ends (size_at here.w) 0 = let here = c.loop-w in ends_part_at here.memory (size_at here.w) (omega (arith, among, few)) in
+    let own_size : let here = c.loop-w in get_or here.memory (4096 + size_at here.w) 0
+    ≡ get_or (parts here.memory).ends (size_at here.w) 0 = let here = c.loop-w in
+    ends_part_at here.memory (size_at here.w) (omega (arith, among, few)) in
     (_, work_turn c.requires.turn c.loop-w.invariant.0 each (omega (arith, own_size, c.if-memory-size_at-gt0.true)))
 
 pub add_work-t-requires : goal.add_work-t-requires
 add_work-t-requires c =
     let few : (numbers_in c.args.words.now).workers < 65 = omega (arith, few_workers c.requires) in
     let among : c.loop-w.w < (numbers_in c.args.words.now).workers = c.loop-w-test.true in
-    let each : c.loop-w.w < length (choices_for c.args.words.now c.args.seed) = omega (arith, among, one_each c.args.words.now c.args.seed) in
-    let own_size : let here = c.loop-w in get_or here.memory (4096 + size_at here.w) 0 ≡ get_or (parts here.memory).ends (size_at here.w) 0 = let here = c.loop-w in ends_part_at here.memory (size_at here.w) (omega (arith, among, few)) in
+    let each : c.loop-w.w < length (choices_for c.args.words.now c.args.seed) = omega (arith, among,
+    one_each c.args.words.now c.args.seed) in
+    let own_size : let here = c.loop-w in get_or here.memory (4096 + size_at here.w) 0
+    ≡ get_or (parts here.memory).ends (size_at here.w) 0 = let here = c.loop-w in
+    ends_part_at here.memory (size_at here.w) (omega (arith, among, few)) in
     let tick = c.requires.turn in
-    let turn = work_turn tick c.loop-w.invariant.0 each (omega (arith, own_size, c.if-memory-size_at-gt0.true)) in record { growing = growing (addable tick c.loop-w.invariant.0 c.loop-w.w (omega arith) (omega (arith, among, few))); one_at_most = omega (arith, (c.work_cycle-completed.ensures _ turn).one_at_most) }
+    let turn = work_turn tick c.loop-w.invariant.0 each (omega (arith, own_size, c.if-memory-size_at-gt0.true)) in record { growing =
+    growing (addable tick c.loop-w.invariant.0 c.loop-w.w (omega arith) (omega (arith, among, few))); one_at_most = omega (arith,
+    (c.work_cycle-completed.ensures _ turn).one_at_most) }
 
 -- ---- a worker that looks for a deque: its draw, and the choice read from it
 pub overflow_cast-workers : goal.overflow_cast-workers
@@ -88,11 +96,16 @@ overflow_cast-choice c =
 pub idle_cycle-t-requires : goal.idle_cycle-t-requires
 idle_cycle-t-requires c =
     let among : c.loop-w.w < (numbers_in c.args.words.now).workers = c.loop-w-test.true in
-    let each : c.loop-w.w < length (choices_for c.args.words.now c.args.seed) = omega (arith, among, one_each c.args.words.now c.args.seed) in
+    let each : c.loop-w.w < length (choices_for c.args.words.now c.args.seed) = omega (arith, among,
+    one_each c.args.words.now c.args.seed) in
     let few : (numbers_in c.args.words.now).workers < 65 = omega (arith, few_workers c.requires) in
-    let own_size : let here = c.loop-w in get_or here.memory (4096 + size_at here.w) 0 ≡ get_or (parts here.memory).ends (size_at here.w) 0 = let here = c.loop-w in ends_part_at here.memory (size_at here.w) (omega (arith, among, few)) in
-    let drawn_state : c.next-s.result ≡ seed_after (c.loop-w.w + 1) c.args.seed = next_state c.loop-w.w c.args.seed c.loop-w.invariant.1 c.next-s.ensures in
-    let drawn_choice_is : c.choice-choice.result ≡ get_or (choices_for c.args.words.now c.args.seed) c.loop-w.w 0 = choice_is c.args.words.now c.args.seed c.loop-w.w among drawn_state c.choice-choice.ensures in
+    let own_size : let here = c.loop-w in get_or here.memory (4096 + size_at here.w) 0
+    ≡ get_or (parts here.memory).ends (size_at here.w) 0 = let here = c.loop-w in
+    ends_part_at here.memory (size_at here.w) (omega (arith, among, few)) in
+    let drawn_state : c.next-s.result ≡ seed_after (c.loop-w.w + 1) c.args.seed =
+    next_state c.loop-w.w c.args.seed c.loop-w.invariant.1 c.next-s.ensures in
+    let drawn_choice_is : c.choice-choice.result ≡ get_or (choices_for c.args.words.now c.args.seed) c.loop-w.w 0 =
+    choice_is c.args.words.now c.args.seed c.loop-w.w among drawn_state c.choice-choice.ensures in
     rw drawn_choice_is
     (idle_turn c.requires.turn c.loop-w.invariant.0 each (omega (arith, own_size, c.if-memory-size_at-gt0.false)))
 
@@ -109,10 +122,14 @@ loop-w-smaller c =
 pub loop-w-preserved : goal.loop-w-preserved
 loop-w-preserved c =
     let among : c.loop-w.w < (numbers_in c.args.words.now).workers = c.loop-w-test.true in
-    let each : c.loop-w.w < length (choices_for c.args.words.now c.args.seed) = omega (arith, among, one_each c.args.words.now c.args.seed) in
+    let each : c.loop-w.w < length (choices_for c.args.words.now c.args.seed) = omega (arith, among,
+    one_each c.args.words.now c.args.seed) in
     let few : (numbers_in c.args.words.now).workers < 65 = omega (arith, few_workers c.requires) in
-    let own_size : let here = c.loop-w in get_or here.memory (4096 + size_at here.w) 0 ≡ get_or (parts here.memory).ends (size_at here.w) 0 = let here = c.loop-w in ends_part_at here.memory (size_at here.w) (omega (arith, among, few)) in
-    let drawn_state : c.next-s.result ≡ seed_after (c.loop-w.w + 1) c.args.seed = next_state c.loop-w.w c.args.seed c.loop-w.invariant.1 c.next-s.ensures in
+    let own_size : let here = c.loop-w in get_or here.memory (4096 + size_at here.w) 0
+    ≡ get_or (parts here.memory).ends (size_at here.w) 0 = let here = c.loop-w in
+    ends_part_at here.memory (size_at here.w) (omega (arith, among, few)) in
+    let drawn_state : c.next-s.result ≡ seed_after (c.loop-w.w + 1) c.args.seed =
+    next_state c.loop-w.w c.args.seed c.loop-w.invariant.1 c.next-s.ensures in
     let tick = c.requires.turn in
     let u = c.loop-w.invariant.0 in (
       elim c.if-memory-size_at-gt0.branch [

@@ -41,15 +41,21 @@ bounds-memory-size_at c =
 
 pub work_cycle-completed-requires : goal.work_cycle-completed-requires
 work_cycle-completed-requires c =
-    let own_size : let here = c.loop-w in get_or here.memory (4096 + size_at here.w) 0 ≡ get_or (parts here.memory).ends (size_at here.w) 0 = let here = c.loop-w in ends_part_at here.memory (size_at here.w) (omega (arith, c.loop-w-test.true, few_choices c.requires)) in
+    let own_size : let here = c.loop-w in get_or here.memory (4096 + size_at here.w) 0
+    ≡ get_or (parts here.memory).ends (size_at here.w) 0 = let here = c.loop-w in
+    ends_part_at here.memory (size_at here.w) (omega (arith, c.loop-w-test.true, few_choices c.requires)) in
     (_, work_turn c.requires c.loop-w.invariant c.loop-w-test.true (omega (arith, own_size, c.if-memory-size_at-gt0.true)))
 
 pub add_work-t-requires : goal.add_work-t-requires
 add_work-t-requires c =
-    let own_size : let here = c.loop-w in get_or here.memory (4096 + size_at here.w) 0 ≡ get_or (parts here.memory).ends (size_at here.w) 0 = let here = c.loop-w in ends_part_at here.memory (size_at here.w) (omega (arith, c.loop-w-test.true, few_choices c.requires)) in
+    let own_size : let here = c.loop-w in get_or here.memory (4096 + size_at here.w) 0
+    ≡ get_or (parts here.memory).ends (size_at here.w) 0 = let here = c.loop-w in
+    ends_part_at here.memory (size_at here.w) (omega (arith, c.loop-w-test.true, few_choices c.requires)) in
     let tick = c.requires in
     let l = c.loop-w-test.true in
-    let turn = work_turn tick c.loop-w.invariant l (omega (arith, own_size, c.if-memory-size_at-gt0.true)) in record { growing = growing (addable tick c.loop-w.invariant c.loop-w.w (omega arith) (omega (arith, l, few_choices tick))); one_at_most = omega (arith, (c.work_cycle-completed.ensures _ turn).one_at_most) }
+    let turn = work_turn tick c.loop-w.invariant l (omega (arith, own_size, c.if-memory-size_at-gt0.true)) in record { growing =
+    growing (addable tick c.loop-w.invariant c.loop-w.w (omega arith) (omega (arith, l, few_choices tick))); one_at_most = omega (arith,
+    (c.work_cycle-completed.ensures _ turn).one_at_most) }
 
 pub bounds-choices-w : goal.bounds-choices-w
 bounds-choices-w c =
@@ -57,7 +63,9 @@ bounds-choices-w c =
 
 pub idle_cycle-t-requires : goal.idle_cycle-t-requires
 idle_cycle-t-requires c =
-    let own_size : let here = c.loop-w in get_or here.memory (4096 + size_at here.w) 0 ≡ get_or (parts here.memory).ends (size_at here.w) 0 = let here = c.loop-w in ends_part_at here.memory (size_at here.w) (omega (arith, c.loop-w-test.true, few_choices c.requires)) in
+    let own_size : let here = c.loop-w in get_or here.memory (4096 + size_at here.w) 0
+    ≡ get_or (parts here.memory).ends (size_at here.w) 0 = let here = c.loop-w in
+    ends_part_at here.memory (size_at here.w) (omega (arith, c.loop-w-test.true, few_choices c.requires)) in
     idle_turn c.requires c.loop-w.invariant c.loop-w-test.true
     (omega (arith, own_size, c.if-memory-size_at-gt0.false))
 
@@ -71,14 +79,17 @@ loop-w-smaller c =
 
 pub loop-w-preserved : goal.loop-w-preserved
 loop-w-preserved c =
-    let own_size : let here = c.loop-w in get_or here.memory (4096 + size_at here.w) 0 ≡ get_or (parts here.memory).ends (size_at here.w) 0 = let here = c.loop-w in ends_part_at here.memory (size_at here.w) (omega (arith, c.loop-w-test.true, few_choices c.requires)) in
+    let own_size : let here = c.loop-w in get_or here.memory (4096 + size_at here.w) 0
+    ≡ get_or (parts here.memory).ends (size_at here.w) 0 = let here = c.loop-w in
+    ends_part_at here.memory (size_at here.w) (omega (arith, c.loop-w-test.true, few_choices c.requires)) in
     let tick = c.requires in
     let l = c.loop-w-test.true in
     let u = c.loop-w.invariant in
     elim c.if-memory-size_at-gt0.branch [
       then-memory-size_at-gt0 w ↦
         rw (w.memory-is, w.words-is, w.t-is)
-        (onward_work tick u l (omega (arith, own_size, w.if-memory-size_at-gt0.true)) (w.work_cycle-completed.ensures _) w.add_work-t.ensures)
+        (onward_work tick u l (omega (arith, own_size,
+        w.if-memory-size_at-gt0.true)) (w.work_cycle-completed.ensures _) w.add_work-t.ensures)
       | else-memory-size_at-gt0 w ↦ rw (w.memory-is, w.words-is, w.t-is) (onward_idle tick u l w.idle_cycle-t.ensures)
     ]
 

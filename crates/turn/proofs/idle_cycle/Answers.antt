@@ -52,7 +52,9 @@ bounds-memory-size_at c =
 
 pub rob-requires : goal.rob-requires
 rob-requires c =
-    let chosen_size : get_or c.args.memory.now (4096 + size_at c.args.choice) 0 ≡ get_or (parts c.args.memory.now).ends (size_at c.args.choice) 0 = ends_part_at c.args.memory.now (size_at c.args.choice) (omega (arith, choice_place c.requires.turn)) in
+    let chosen_size : get_or c.args.memory.now (4096 + size_at c.args.choice) 0
+    ≡ get_or (parts c.args.memory.now).ends (size_at c.args.choice) 0 =
+    ends_part_at c.args.memory.now (size_at c.args.choice) (omega (arith, choice_place c.requires.turn)) in
     robbable c.requires.turn (omega (arith, chosen_size, c.if-memory-size_at-gt1.true))
 
 pub overflow_add-words : goal.overflow_add-words
@@ -61,11 +63,15 @@ overflow_add-words c =
 
 pub returns-then-memory-size_at-gt1 : goal.returns-then-memory-size_at-gt1
 returns-then-memory-size_at-gt1 c =
-    let chosen_size : get_or c.args.memory.now (4096 + size_at c.args.choice) 0 ≡ get_or (parts c.args.memory.now).ends (size_at c.args.choice) 0 = ends_part_at c.args.memory.now (size_at c.args.choice) (omega (arith, choice_place c.requires.turn)) in
+    let chosen_size : get_or c.args.memory.now (4096 + size_at c.args.choice) 0
+    ≡ get_or (parts c.args.memory.now).ends (size_at c.args.choice) 0 =
+    ends_part_at c.args.memory.now (size_at c.args.choice) (omega (arith, choice_place c.requires.turn)) in
     idled_theft c.requires c.number-mugged.ensures c.if-mugged-words.false (omega (arith, chosen_size, c.if-memory-size_at-gt1.true))
     c.rob.ensures refl
 
 pub returns-else-memory-size_at-gt1 : goal.returns-else-memory-size_at-gt1
 returns-else-memory-size_at-gt1 c =
-    let chosen_size : get_or c.args.memory.now (4096 + size_at c.args.choice) 0 ≡ get_or (parts c.args.memory.now).ends (size_at c.args.choice) 0 = ends_part_at c.args.memory.now (size_at c.args.choice) (omega (arith, choice_place c.requires.turn)) in
+    let chosen_size : get_or c.args.memory.now (4096 + size_at c.args.choice) 0
+    ≡ get_or (parts c.args.memory.now).ends (size_at c.args.choice) 0 =
+    ends_part_at c.args.memory.now (size_at c.args.choice) (omega (arith, choice_place c.requires.turn)) in
     idled_nothing c.requires c.number-mugged.ensures c.if-mugged-words.false (omega (arith, chosen_size, c.if-memory-size_at-gt1.false))
