@@ -1,5 +1,5 @@
--- That the rows of examples hold: the checker computes every one. Below them the statements of demand 3 at numbers, and the tests of the two
--- tables, which the crate `laws` makes rules. (In proofs/, so that an edit of a definition is refused by them.)
+-- That the rows of examples hold: the checker computes every one. Below them the statements of demand 3 at numbers, and the tests of the
+-- two tables, which the crate `laws` makes rules. (In proofs/, so that an edit of a definition is refused by them.)
 -- Assumes nothing.
 use Rattle.std.specs.Prelude.{◌≡◌, refl, true}
 use mathlib.Core.List.{[], flat_map}

@@ -1,5 +1,6 @@
 -- Document 01, "Grant", "Tick" and "Round's end", and request U5's offers: what a job is, and how each call moves it.
-use Rattle.std.specs.Prelude.{Bool, true, false, cond, not, ◌&&◌, ℕ, suc, ◌+◌, ◌-◌, ◌*◌, ◌/◌, ◌^◌, leb, ltb, eqb, length, get_or, take, drop, set, replicate}
+use Rattle.std.specs.Prelude.{Bool, true, false, cond, not, ◌&&◌, ℕ, suc, ◌+◌, ◌-◌, ◌*◌, ◌/◌}
+use Rattle.std.specs.Prelude.{◌^◌, leb, ltb, eqb, length, get_or, take, drop, set, replicate}
 use mathlib.Core.List.{List, [], ◌∷◌, ◌++◌, tail, reverse}
 use Rattle.model.specs.Tests.{every, keep, is_empty, count_set, all_set, zeros}
 use Rattle.model.specs.Questions.{Question, ask, Answer, first_no, by_answer}

@@ -20,7 +20,12 @@ returns-then-not-passed c =
 pub read_graph-heading-requires : goal.read_graph-heading-requires
 unfolding no_memory
 read_graph-heading-requires c =
-    let a = c.header_answer-answer in record { header_read = header_accepted _ _ (omega arith) c.header_of-h.ensures a.result a.ensures (sym c.passed.ensures ∙ c.if-not-passed.false); cleared = refl }
+    let a = c.header_answer-answer in
+    record {
+      header_read =
+          header_accepted _ _ (omega arith) c.header_of-h.ensures a.result a.ensures (sym c.passed.ensures ∙ c.if-not-passed.false);
+      cleared = refl;
+    }
 
 pub returns-then-not-passed-2 : goal.returns-then-not-passed-2
 returns-then-not-passed-2 c =
