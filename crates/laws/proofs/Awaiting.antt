@@ -82,8 +82,8 @@ module _ (graph : Graph) where
 
   pub awaited_at_first : (t : ℕ) → still_awaited graph (replicate (tasks graph) false) t ≡ length (predecessors graph t)
   awaited_at_first t =
-      all_kept (predecessors graph t) (λ p. not (get_or (replicate (tasks graph) false) p false)) (λ p. rw (alike (tasks graph) p false)
-      refl)
+      all_kept (predecessors graph t) (λ p. not (get_or (replicate (tasks graph) false) p false))
+      (λ p. rw (alike (tasks graph) p false) refl)
 
   -- a task is before another once, or not at all
   before_times : (t x : ℕ) → t < tasks graph → occurrences t (predecessors graph x) ≡ cond (member x (successors_of graph t)) 1 0
@@ -92,8 +92,8 @@ module _ (graph : Graph) where
       occurrences_keep (λ p. member x (successors_of graph p)) t (below (tasks graph))
       ∙ ap (λ (n : ℕ). cond (member x (successors_of graph t)) n 0) (occurrences_below t (tasks graph) l)
 
-  module _ (worked : List Bool) (t : ℕ) (l : t < tasks graph) (flags : length worked ≡ tasks graph) (u : get_or worked t false
-  ≡ false) where
+  module _ (worked : List Bool) (t : ℕ) (l : t < tasks graph) (flags : length worked ≡ tasks graph)
+      (u : get_or worked t false ≡ false) where
     awaited_change : (x : ℕ) →
         still_awaited graph worked x ≡ still_awaited graph (completed t worked) x + cond (member x (successors_of graph t)) 1 0
     awaited_change x =

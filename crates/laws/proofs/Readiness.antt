@@ -46,8 +46,8 @@ module _ (graph : Graph) where
       every_from (λ q. get_or worked q false) (predecessors graph t) (λ p m. let r = is_predecessor t p m in h p r.0 r.1)
 
   -- a task with an unworked task before it is not ready
-  pub not_ready : (worked : List Bool) (t p : ℕ) → p < tasks graph → member t (successors_of graph p) ≡ true → get_or worked p false
-  ≡ false →
+  pub not_ready : (worked : List Bool) (t p : ℕ) → p < tasks graph → member t (successors_of graph p) ≡ true →
+      get_or worked p false ≡ false →
       ready graph worked t ≡ false
   not_ready worked t p l m u = not_true_is_false (ready graph worked t) (λ h. true_is_not_false (ready_is worked t h p l m) u)
 

@@ -71,7 +71,7 @@ unfolding successors_view
 tasks_shown first second n = table_length (successors_at first second) n
 
 pub successors_shown : (first second : List ℕ) (n t : ℕ) → t < n → get_or (successors_view first second n) t []
-≡ successors_at first second t
+    ≡ successors_at first second t
 unfolding successors_view
 successors_shown first second n t h = table_at (successors_at first second) n t [] h
 

@@ -67,8 +67,8 @@ module _ (bytes : List ℕ) (t : ℕ) where
 
   bits_of_four : (form_of bytes).task_bytes ≡ 4 →
       task_bits bytes t
-      ≡ four_bytes (get_or bytes (5 + 4 * t) 0) (get_or bytes (5 + 4 * t + 1) 0) (get_or bytes (5 + 4 * t + 2) 0) (get_or bytes (5 + 4 *
-      t + 3) 0)
+      ≡ four_bytes (get_or bytes (5 + 4 * t) 0) (get_or bytes (5 + 4 * t + 1) 0) (get_or bytes (5 + 4 * t + 2) 0)
+      (get_or bytes (5 + 4 * t + 3) 0)
   unfolding task_bits number
   bits_of_four e = rw (e, add-zero (5 + 4 * t)) (omega arith)
 

@@ -66,8 +66,8 @@ grown_more h f = search rules
 room_grown : {most more limit : ℕ} {m m' : Numbers} → Room most m → Grown more m m' → most + more ≤ limit → Room limit m'
 room_grown r f h = search rules
 
-words_then : {words words' words'' : List ℕ} → SameButSuccesses words words' → SameButSuccesses words' words''
-→ SameButSuccesses words words''
+words_then : {words words' words'' : List ℕ} → SameButSuccesses words words' → SameButSuccesses words' words'' →
+    SameButSuccesses words words''
 words_then f g =
     record {
       same_length = g.same_length ∙ f.same_length;

@@ -12,6 +12,7 @@ overflow_add-result c =
 
 pub overflow_add-result-in-Tick : goal.overflow_add-result-in-Tick
 overflow_add-result-in-Tick c =
-    let read : ReadAt c.args.log.now c.args.at (Tick c.in-Tick.start c.in-Tick.count) = record { is = sym c.entry_at.ensures
-    ∙ c.in-Tick.is } in
+    let read : ReadAt c.args.log.now c.args.at (Tick c.in-Tick.start c.in-Tick.count) = record {
+      is = sym c.entry_at.ensures ∙ c.in-Tick.is;
+    } in
     omega (arith, tick_inside read)
