@@ -1,3 +1,5 @@
+#![tactic(auto)]
+
 // A grant, in place over the ends of the deques (document 01, "Grant"). What it does depends on no task and no link.
 ghost use Rattle.std.specs.Prelude.{◌≡◌, ◌≤◌, length};
 ghost use Rattle.memory.specs.Parts.{parts, parts_before, parts_after, SameButEnds};

@@ -1,3 +1,5 @@
+#![tactic(auto)]
+
 // The questions of each call, 11 to 17, 24 and 25, asked of a job's words.
 ghost use Rattle.std.specs.Prelude.{◌≡◌, ◌<◌};
 ghost use Rattle.model.specs.Questions.{answer_number, first_no};

@@ -1,3 +1,5 @@
+#![tactic(auto)]
+
 // A quantum in a job's words: it opens, its ticks are counted, and it closes.
 ghost use Rattle.clock.specs.Clock.{Openable, Opened, Countable, TickEnded};
 

@@ -1,3 +1,5 @@
+#![tactic(auto)]
+
 // The day log, run on a job in place. `specs/Running.antt` says what a run promises.
 ghost use Rattle.std.specs.Prelude.{◌≡◌};
 ghost use Rattle.model.specs.Log.{refusals_in, log_answer};

@@ -1,5 +1,7 @@
 // The deques of all workers, in place in a job's memory, over one shared part of links. A deque is a front and a size, and what the links
 // hold past the size is ignored.
+#![tactic(auto)]
+
 ghost use Rattle.std.specs.Prelude.{◌≡◌, ◌<◌};
 ghost use Rattle.model.specs.Machine.{stolen_count};
 ghost use Rattle.memory.specs.Parts.{parts, parts_before, parts_after};

@@ -1,3 +1,5 @@
+#![tactic(auto)]
+
 // The in-place core of a job: acceptance, a grant, an offer with its opening and withdrawal, and a tick, each in the memory and the words
 // that are lent. Nothing is copied, and a call reads and writes the words that it needs.
 ghost use Rattle.std.specs.Prelude.{◌≡◌};

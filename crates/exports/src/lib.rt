@@ -1,3 +1,5 @@
+#![tactic(auto)]
+
 // The static library: a job in memory that the caller lends, for C and Rust, moved in place by `engine`. Each function answers with
 // document 01's number of the refusal, or 0.
 ghost use Rattle.std.specs.Prelude.{◌≡◌};

@@ -1,3 +1,5 @@
+#![tactic(auto)]
+
 // The static library's log run: a job in lent memory, and a log of any bytes. It stands by itself so that the compiler has one caller for
 // each copy of the core, here and in `exports`, and inlines it.
 ghost use Rattle.std.specs.Prelude.{◌≡◌};

@@ -1,3 +1,5 @@
+#![tactic(auto)]
+
 // The static library for a console without dice: a seeded tick of a job in lent memory, and the entries of a log that is kept in a lent
 // buffer. It stands by itself so that the compiler has one caller for each copy of the core, here and in `exports`, and inlines it.
 ghost use Rattle.std.specs.Prelude.{◌≡◌, []};

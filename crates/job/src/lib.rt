@@ -1,3 +1,5 @@
+#![tactic(auto)]
+
 // The job record, by value. It carries its plan: a call takes a count or choices and nothing else. A thin layer over the in-place
 // core `engine`.
 ghost use Rattle.std.specs.Prelude.{◌≡◌};

@@ -1,3 +1,5 @@
+#![tactic(auto)]
+
 // Request U13: entries of the day log, appended to a lent buffer of which the first `size` bytes are written. The definitions are model's
 // specs/Log.antt, and of the drawn choices its specs/Seeds.antt.
 ghost use Rattle.std.specs.Prelude.{◌≡◌, [], ◌+◌, ◌-◌, ◌%◌, ◌/◌, ◌≤◌, ◌<◌, length};

@@ -1,3 +1,5 @@
+#![tactic(auto)]
+
 // The program of document 01, from its input's bytes to its output's. Model's specs/Program.antt says what is printed.
 ghost use Rattle.std.specs.Prelude.{◌≡◌, ◌+◌, ◌≤◌, length};
 ghost use Rattle.std.proofs.lemmas.List.Edits.{sets};

@@ -1,4 +1,6 @@
 // What a quantum's end does to the wish (document 01, "Round's end"; request U14).
+#![tactic(auto)]
+
 ghost use Rattle.std.specs.Prelude.{◌≡◌, ◌*◌, ◌≤◌, get_or};
 ghost use Rattle.model.specs.Plan.{by_factor, by_tenths, growth_with, longest_quantum};
 ghost use Rattle.model.specs.Machine.{raised, lowered, most_workers, top_desire, row_of, last_power};

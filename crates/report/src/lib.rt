@@ -1,3 +1,5 @@
+#![tactic(auto)]
+
 // What a buyer is shown of a job record: the wording of its status, and its counters line.
 ghost use Rattle.model.specs.Machine.{status};
 ghost use Rattle.memory.specs.Jobs.{job_state};

@@ -1,3 +1,5 @@
+#![tactic(auto)]
+
 // A seeded tick, in place: the choices are drawn from a seed, one for each granted worker, and the divisions made only where a worker looks
 // for a deque.
 ghost use Rattle.std.specs.Prelude.{◌≡◌};

@@ -1,4 +1,6 @@
 // How many cycles of each kind a tick has had so far, and what they add to a job's words at its end.
+#![tactic(auto)]
+
 ghost use Rattle.std.specs.Prelude.{◌≡◌, ◌≤◌};
 ghost use Rattle.tally.specs.Tallies.{no_tally, add_work, add_mug, Growing, Addable, Settled};
 

@@ -1,3 +1,5 @@
+#![tactic(auto)]
+
 // A worker's cycle and the cycles of a tick, in place in a job's memory and words. A work cycle is `work`'s; here are mug and steal cycles.
 ghost use Rattle.turn.specs.Turns.{IdleTurn, Idled, TickTurn, Ticked};
 

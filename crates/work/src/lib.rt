@@ -1,4 +1,6 @@
 // A worker's work cycle, in place in a job's memory.
+#![tactic(auto)]
+
 ghost use Rattle.memory.specs.Parts.{Parts, parts, parts_before, parts_after};
 ghost use Rattle.memory.specs.Words.{Numbers};
 ghost use Rattle.work.specs.Works.{WorkTurn, LastTick, Worked};

@@ -1,8 +1,7 @@
 -- `allot::withdraw` meets its contract. The loop's invariant: what has joined and what has yet to join is together what is to join.
 use native.Mathlib.Omega.{arith}
-use Rattle.memory.specs.Parts.{parts, SameButEnds}
 use Rattle.allot.proofs.Ring.{no_move, moved_then}
-use Rattle.allot.proofs.Withdrawals.{Withdrawing, withdrawing_none, withdrawing_room, withdrawing_more, withdrawing_done}
+use Rattle.allot.proofs.Withdrawals.{withdrawing_none, withdrawing_room, withdrawing_more, withdrawing_done}
 use Rattle.allot.proofs.withdraw.Goals as goal
 
 pub loop-left-init : goal.loop-left-init

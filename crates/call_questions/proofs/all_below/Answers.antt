@@ -1,11 +1,8 @@
 -- `call_questions::all_below` meets its contract. The loop's invariant: all choices pass where those so far did and those that are left do.
 -- Assumes nothing.
-use mathlib.Core.Path.{◌≡◌, refl, sym, ◌∙◌}
-use mathlib.Core.Bool.{◌&&◌}
-use Prim.Native.Nat.{◌≤◌, ◌-◌}
+use mathlib.Core.Path.{refl, sym, ◌∙◌}
+use Prim.Native.Nat.{◌-◌}
 use native.Mathlib.Omega.{arith}
-use lib.ListN.{length, drop}
-use Rattle.call_questions.specs.Asked.{choices_below}
 use Rattle.call_questions.proofs.Answers.{choice_asked, choices_passed}
 use Rattle.call_questions.proofs.all_below.Goals as goal
 

@@ -1,16 +1,12 @@
 -- `call_questions::grant_answer` meets its contract: on each way out the tests that were made tell the first "no".
 -- The needs that are only searched for are places below 21 and numbers that fit.
 -- Assumes nothing.
-use mathlib.Core.Path.{◌≡◌, refl}
-use mathlib.Core.Bool.{Bool, true, false, cond}
-use Prim.Native.Nat.{ℕ}
+use mathlib.Core.Bool.{true, false}
 use native.Mathlib.Omega.{arith}
-use borrow.Author.Rules.{rules}
 use borrow.Author.Tests.{lt-ltb, le-ltb, le-leb, lt-leb, eq-eqb, ne_eqb}
-use lib.Dec.{leb, eqb}
-use Rattle.model.specs.Questions.{accepted, refused, first_no}
+use Rattle.model.specs.Questions.{first_no}
 use Rattle.model.specs.Machine.{quantum_limit}
-use Rattle.memory.specs.Words.{word, note_word}
+use Rattle.memory.specs.Words.{word}
 use Rattle.call_questions.specs.Asked.{grant_asked}
 use Rattle.call_questions.proofs.grant_answer.Goals as goal
 

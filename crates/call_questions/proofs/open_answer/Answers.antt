@@ -1,9 +1,7 @@
 -- `call_questions::open_answer` meets its contract: on each way out the tests that were made tell the first "no".
 -- The need that is only searched for is a place below 21.
 -- Assumes nothing.
-use Prim.Native.Nat.{ℕ}
 use native.Mathlib.Omega.{arith}
-use borrow.Author.Rules.{rules}
 use borrow.Author.Tests.{lt-ltb, le-ltb, eq-eqb, ne_eqb}
 use Rattle.model.specs.Questions.{first_no}
 use Rattle.memory.specs.Words.{word, note_word}

@@ -1,7 +1,6 @@
 -- `call_questions::seeded_answer` meets its contract: on each way out the tests that were made tell the first "no".
 -- The needs that are only searched for are places below 21.
 -- Assumes nothing.
-use borrow.Author.Rules.{rules}
 use borrow.Author.Tests.{eq-eqb, ne_eqb}
 use Rattle.model.specs.Questions.{first_no}
 use Rattle.call_questions.specs.Asked.{seeded_asked}

@@ -1,11 +1,10 @@
 -- `call_questions::tick_answer` meets its contract: on each way out the tests that were made tell the first "no".
 -- The needs that are only searched for are places below 21 and numbers that fit.
 -- Assumes nothing.
-use borrow.Author.Rules.{rules}
-use mathlib.Core.Path.{◌≡◌, sym, ◌∙◌}
-use mathlib.Core.Bool.{Bool, true, false, cond}
+use mathlib.Core.Path.{sym, ◌∙◌}
+use mathlib.Core.Bool.{true, false}
 use borrow.Author.Tests.{eq-eqb, ne_eqb}
-use Rattle.model.specs.Questions.{accepted, refused, first_no}
+use Rattle.model.specs.Questions.{first_no}
 use Rattle.call_questions.specs.Asked.{tick_asked}
 use Rattle.call_questions.proofs.tick_answer.Goals as goal
 

@@ -1,7 +1,6 @@
 -- `call_questions::withdraw_answer` meets its contract: on each way out the test that was made tells the answer.
 -- The need that is only searched for is a place below 21.
 -- Assumes nothing.
-use borrow.Author.Rules.{rules}
 use borrow.Author.Tests.{eq-eqb, ne_eqb}
 use Rattle.model.specs.Questions.{first_no}
 use Rattle.call_questions.specs.Asked.{withdraw_asked}

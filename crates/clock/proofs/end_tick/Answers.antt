@@ -1,9 +1,6 @@
 -- `clock::end_tick` meets its contract: each way out is a law of Ending.
 -- The needs that are only searched for are places below 20 and numbers that fit.
 -- Assumes nothing.
-use borrow.Author.Rules.{rules}
-use mathlib.Core.List.{List}
-use Prim.Native.Nat.{ℕ}
 use native.Mathlib.Omega.{arith}
 use Rattle.memory.specs.Words.{word, flag, growth_in, wish_in}
 use Rattle.quantum.specs.Closing.{Closable}
@@ -21,27 +18,36 @@ returns-then-words-tasks c =
 pub overflow_cast-wish : goal.overflow_cast-wish
 overflow_cast-wish c =
     let closable : Closable (growth_in (counted_words (c.args.words.now))) (wish_in (counted_words (c.args.words.now))) (word
-    (counted_words (c.args.words.now)) 7) = rw ( counted_other (c.args.words.now) 10 (λ e. omega arith),
-    counted_other (c.args.words.now) 18 (λ e. omega arith), counted_other (c.args.words.now) 19 (λ e. omega arith),
-    counted_other (c.args.words.now) 13 (λ e. omega arith), counted_other (c.args.words.now) 7 (λ e. omega arith),
+    (counted_words (c.args.words.now)) 7) = rw (
+      counted_other (c.args.words.now) 10 (λ e. omega arith),
+      counted_other (c.args.words.now) 18 (λ e. omega arith),
+      counted_other (c.args.words.now) 19 (λ e. omega arith),
+      counted_other (c.args.words.now) 13 (λ e. omega arith),
+      counted_other (c.args.words.now) 7 (λ e. omega arith),
     ) c.requires.closable in
     omega (arith, closable.desired.power_at_most)
 
 pub overflow_cast-wish-2 : goal.overflow_cast-wish-2
 overflow_cast-wish-2 c =
     let closable : Closable (growth_in (counted_words (c.args.words.now))) (wish_in (counted_words (c.args.words.now))) (word
-    (counted_words (c.args.words.now)) 7) = rw ( counted_other (c.args.words.now) 10 (λ e. omega arith),
-    counted_other (c.args.words.now) 18 (λ e. omega arith), counted_other (c.args.words.now) 19 (λ e. omega arith),
-    counted_other (c.args.words.now) 13 (λ e. omega arith), counted_other (c.args.words.now) 7 (λ e. omega arith),
+    (counted_words (c.args.words.now)) 7) = rw (
+      counted_other (c.args.words.now) 10 (λ e. omega arith),
+      counted_other (c.args.words.now) 18 (λ e. omega arith),
+      counted_other (c.args.words.now) 19 (λ e. omega arith),
+      counted_other (c.args.words.now) 13 (λ e. omega arith),
+      counted_other (c.args.words.now) 7 (λ e. omega arith),
     ) c.requires.closable in
     omega (arith, closable.desired.at_most)
 
 pub overflow_cast-words : goal.overflow_cast-words
 overflow_cast-words c =
     let closable : Closable (growth_in (counted_words (c.args.words.now))) (wish_in (counted_words (c.args.words.now))) (word
-    (counted_words (c.args.words.now)) 7) = rw ( counted_other (c.args.words.now) 10 (λ e. omega arith),
-    counted_other (c.args.words.now) 18 (λ e. omega arith), counted_other (c.args.words.now) 19 (λ e. omega arith),
-    counted_other (c.args.words.now) 13 (λ e. omega arith), counted_other (c.args.words.now) 7 (λ e. omega arith),
+    (counted_words (c.args.words.now)) 7) = rw (
+      counted_other (c.args.words.now) 10 (λ e. omega arith),
+      counted_other (c.args.words.now) 18 (λ e. omega arith),
+      counted_other (c.args.words.now) 19 (λ e. omega arith),
+      counted_other (c.args.words.now) 13 (λ e. omega arith),
+      counted_other (c.args.words.now) 7 (λ e. omega arith),
     ) c.requires.closable in
     let now-words = counted_words (c.args.words.now) in
     omega (arith, growth_small (flag now-words 18) (word now-words 10) closable.desired.few_bits)
@@ -61,9 +67,12 @@ overflow_cast-words-4 c =
 pub next_wish-next-requires : goal.next_wish-next-requires
 next_wish-next-requires c =
     let closable : Closable (growth_in (counted_words (c.args.words.now))) (wish_in (counted_words (c.args.words.now))) (word
-    (counted_words (c.args.words.now)) 7) = rw ( counted_other (c.args.words.now) 10 (λ e. omega arith),
-    counted_other (c.args.words.now) 18 (λ e. omega arith), counted_other (c.args.words.now) 19 (λ e. omega arith),
-    counted_other (c.args.words.now) 13 (λ e. omega arith), counted_other (c.args.words.now) 7 (λ e. omega arith),
+    (counted_words (c.args.words.now)) 7) = rw (
+      counted_other (c.args.words.now) 10 (λ e. omega arith),
+      counted_other (c.args.words.now) 18 (λ e. omega arith),
+      counted_other (c.args.words.now) 19 (λ e. omega arith),
+      counted_other (c.args.words.now) 13 (λ e. omega arith),
+      counted_other (c.args.words.now) 7 (λ e. omega arith),
     ) c.requires.closable in
     closable
 

@@ -3,8 +3,6 @@
 use native.Mathlib.Omega.{arith}
 use mathlib.Core.Path.{refl, sym, ap, ◌∙◌}
 use mathlib.Core.Bool.{true, false}
-use Prim.Native.Nat.{◌^◌, ◌<◌}
-use lib.ListN.{length}
 use Rattle.model.specs.Log.{refusals_in}
 use Rattle.call_questions.specs.Answers.{answer_of}
 use Rattle.log_reader.specs.declared.Entry.TheVariants.{Grant, Tick, Broken, End}

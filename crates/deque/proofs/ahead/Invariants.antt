@@ -1,15 +1,12 @@
 -- `deque::ahead` meets its contract. The loop's invariant: from the task at hand, as many links as are left lead to the task that the whole
 -- walk leads to, and each may be followed.
-use mathlib.Core.Path.{◌≡◌, refl, sym, ◌∙◌}
+use mathlib.Core.Path.{◌≡◌}
 use mathlib.Core.Bool.{true}
-use native.Mathlib.Omega.{arith}
 use lib.Dec.{ltb}
 use Rattle.model.specs.Tests.{every}
 use Rattle.memory.specs.Parts.{parts}
 use Rattle.memory.specs.View.{walk}
 use Rattle.deque.specs.Links.{link_after}
-use Rattle.memory.proofs.Regions.{next_at}
-use Rattle.deque.proofs.Walks.{Link, follow}
 use Rattle.deque.proofs.ahead.Given as goal
 
 abbrev pub invariant-loop-left : goal.invariant-loop-left

@@ -1,5 +1,4 @@
 -- `deque::deque_at` meets its contract.
-use borrow.Author.Rules.{rules}
 use Rattle.memory.proofs.Regions.{deque_read}
 use Rattle.deque.proofs.deque_at.Goals as goal
 

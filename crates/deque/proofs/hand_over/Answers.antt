@@ -1,5 +1,4 @@
 -- `deque::hand_over` meets its contract: what is put is what was read.
-use borrow.Author.Rules.{rules}
 use mathlib.Core.Path.{◌∙◌, ap}
 use Rattle.memory.specs.declared.Deque.{Deque}
 use Rattle.memory.specs.Parts.{parts}

@@ -1,5 +1,4 @@
 -- `deque::put` meets its contract.
-use borrow.Author.Rules.{rules}
 use Rattle.memory.proofs.Regions.{put_stored}
 use Rattle.deque.proofs.put.Goals as goal
 

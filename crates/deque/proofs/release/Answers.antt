@@ -1,5 +1,4 @@
 -- `deque::release` meets its contract.
-use borrow.Author.Rules.{rules}
 use Rattle.deque.proofs.Stores.{awaits_at, in_later, in_now}
 use Rattle.deque.proofs.Releases.{released_none}
 use Rattle.deque.proofs.release.Goals as goal

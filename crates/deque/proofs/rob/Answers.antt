@@ -1,5 +1,4 @@
 -- `deque::rob` meets its contract: its steps are those of `Robbing`.
-use borrow.Author.Rules.{rules}
 use native.Mathlib.Omega.{arith}
 use Rattle.deque.proofs.Robbing.{part_taken, part_of_the_way, both_put}
 use Rattle.deque.proofs.rob.Goals as goal

@@ -1,8 +1,6 @@
 -- `engine::accept` meets its contract: a refused plan leaves the memory and the words, and an accepted one gives its fresh job.
 -- Assumes nothing.
 use mathlib.Core.Path.{sym, ◌∙◌}
-use borrow.Author.Rules.{rules}
-use borrow.Author.Tests.{not-true, not-false}
 use Rattle.engine.proofs.Accepting.{accepts, refuses}
 use Rattle.engine.proofs.accept.Goals as goal
 

@@ -4,7 +4,6 @@ use mathlib.Core.Path.{◌≡◌, sym, ap, ◌∙◌}
 use mathlib.Core.List.{List}
 use Prim.Native.Nat.{ℕ}
 use native.Mathlib.Omega.{arith}
-use borrow.Author.Rules.{rules}
 use Rattle.model.specs.Questions.{accepted}
 use Rattle.model.specs.Machine.{offers, call_answer}
 use Rattle.memory.specs.Jobs.{lent, job_state}

@@ -1,10 +1,8 @@
 -- `engine::open` meets its contract: a refused opening leaves the job, and an accepted one drops the note and is then the model's grant.
 -- Assumes nothing.
 use mathlib.Core.Path.{◌≡◌, sym, ap, ◌∙◌}
-use borrow.Author.Rules.{rules}
 use Rattle.model.specs.Questions.{accepted}
 use Rattle.model.specs.Machine.{opens, call_answer}
-use Rattle.memory.specs.declared.Job.{Job}
 use Rattle.memory.specs.Jobs.{lent, job_state}
 use Rattle.call_questions.specs.Answers.{answer_of}
 use Rattle.call_questions.proofs.Answers.{refusing}

@@ -2,10 +2,8 @@
 -- Assumes nothing.
 use mathlib.Core.Path.{◌≡◌, refl, sym, ap, ◌∙◌}
 use native.Mathlib.Omega.{arith}
-use borrow.Author.Rules.{rules}
 use Rattle.model.specs.Questions.{accepted, first_no}
 use Rattle.model.specs.Machine.{ticks, call_answer}
-use Rattle.memory.specs.declared.Job.{Job}
 use Rattle.memory.specs.Jobs.{lent, job_state}
 use Rattle.memory.proofs.Words.{same_tail}
 use Rattle.call_questions.specs.Answers.{answer_of}
@@ -41,8 +39,13 @@ returns-then-words-eq0 c =
     ∙ sym (tick_asking (lent c.args.memory.now c.args.words.now) c.requires.2.kept.done_right c.args.choices.now) in
     let asked : first_no (tick_asked (lent c.args.memory.now c.args.words.now).words c.args.choices.now) ≡ accepted =
     sym c.tick_answer-answer.ensures ∙ ap answer_of c.in-Accepted.is in
-    let nobody = c.if-words-eq0.true in record { answered = answered; moves = idle_tick _ c.requires.2 asked (omega (arith,
-    nobody)) c.end_tick.ensures }
+    let nobody = c.if-words-eq0.true in record {
+      answered = answered;
+      moves = idle_tick _ c.requires.2 asked (omega (
+        arith,
+        nobody,
+      )) c.end_tick.ensures;
+    }
 
 pub cycles-requires : goal.cycles-requires
 cycles-requires c =

@@ -3,7 +3,6 @@
 use mathlib.Core.Path.{◌≡◌, sym, ap, ◌∙◌}
 use mathlib.Core.List.{List}
 use Prim.Native.Nat.{ℕ}
-use borrow.Author.Rules.{rules}
 use Rattle.model.specs.Machine.{withdraws, call_answer}
 use Rattle.memory.specs.Jobs.{lent, job_state}
 use Rattle.call_questions.specs.Answers.{answer_of}

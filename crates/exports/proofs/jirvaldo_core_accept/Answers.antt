@@ -1,7 +1,6 @@
 -- `exports::jirvaldo_core_accept` meets its contract: what the in-place core promises, and the number of its answer.
 -- Assumes nothing.
 use mathlib.Core.Path.{ap, ◌∙◌}
-use borrow.Author.Rules.{rules}
 use Rattle.model.specs.Questions.{answer_number}
 use Rattle.exports.proofs.jirvaldo_core_accept.Goals as goal
 

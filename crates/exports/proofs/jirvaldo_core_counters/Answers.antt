@@ -1,7 +1,6 @@
 -- `exports::jirvaldo_core_counters` meets its contract: the ten numbers are those of the job.
 -- Assumes nothing.
 use mathlib.Core.Path.{◌∙◌}
-use borrow.Author.Rules.{rules}
 use Rattle.exports.proofs.jirvaldo_core_counters.Goals as goal
 
 pub returns : goal.returns

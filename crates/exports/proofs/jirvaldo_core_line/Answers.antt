@@ -1,6 +1,5 @@
 -- `exports::jirvaldo_core_line` meets its contract: what writing the line of the ten numbers promises, said of the memory.
 -- Assumes nothing.
-use borrow.Author.Rules.{rules}
 use Rattle.exports.proofs.Showing.{line_shown}
 use Rattle.exports.proofs.jirvaldo_core_line.Goals as goal
 

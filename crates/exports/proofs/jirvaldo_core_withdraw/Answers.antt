@@ -1,7 +1,6 @@
 -- `exports::jirvaldo_core_withdraw` meets its contract: what the in-place core promises of the words, and the number of its answer.
 -- Assumes nothing.
 use mathlib.Core.Path.{ap, ◌∙◌}
-use borrow.Author.Rules.{rules}
 use Rattle.model.specs.Questions.{answer_number}
 use Rattle.exports.proofs.jirvaldo_core_withdraw.Goals as goal
 

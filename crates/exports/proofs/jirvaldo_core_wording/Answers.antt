@@ -1,7 +1,6 @@
 -- `exports::jirvaldo_core_wording` meets its contract: what looking for the line of the status found, said of the memory.
 -- Assumes nothing.
 use mathlib.Core.Path.{sym, ap, ◌∙◌}
-use borrow.Author.Rules.{rules}
 use Rattle.label.specs.Found.{found_answer, found_stretch}
 use Rattle.label.specs.declared.Found.TheVariants.{At, Missing}
 use Rattle.exports.proofs.Showing.{wording_shown}

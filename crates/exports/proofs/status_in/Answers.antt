@@ -1,7 +1,6 @@
 -- `exports::status_in` meets its contract: the number of the status that the words show.
 -- Assumes nothing.
 use mathlib.Core.Path.{◌∙◌}
-use borrow.Author.Rules.{rules}
 use Rattle.exports.proofs.status_in.Goals as goal
 
 pub returns : goal.returns

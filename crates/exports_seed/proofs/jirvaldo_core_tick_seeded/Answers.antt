@@ -1,7 +1,6 @@
 -- `exports_seed::jirvaldo_core_tick_seeded` meets its contract: what the seeded tick in place promises, and the number of its answer.
 -- Assumes nothing.
 use mathlib.Core.Path.{ap, ◌∙◌}
-use borrow.Author.Rules.{rules}
 use Rattle.model.specs.Questions.{answer_number}
 use Rattle.exports_seed.proofs.jirvaldo_core_tick_seeded.Goals as goal
 

@@ -1,6 +1,5 @@
 -- `job::accept` meets its contract: what the in-place core promises, on memory and words of zeros.
 -- Assumes nothing.
-use borrow.Author.Rules.{rules}
 use Rattle.job.specs.Blank.{blank_job}
 use Rattle.job.proofs.accept.Goals as goal
 

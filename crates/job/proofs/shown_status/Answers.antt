@@ -1,6 +1,5 @@
 -- `job::shown_status` meets its contract: each answer cites the law of its case.
 -- Assumes nothing.
-use borrow.Author.Rules.{rules}
 use Rattle.job.proofs.Statuses.{none_shown, finished_case, fresh_case, held_case, running_case}
 use Rattle.job.proofs.shown_status.Goals as goal
 

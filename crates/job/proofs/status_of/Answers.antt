@@ -1,6 +1,5 @@
 -- `job::status_of` meets its contract: the status that the words of a job show is the state's.
 -- Assumes nothing.
-use borrow.Author.Rules.{rules}
 use Rattle.job.proofs.Statuses.{status_of_job}
 use Rattle.job.proofs.status_of.Goals as goal
 

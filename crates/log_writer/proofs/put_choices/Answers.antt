@@ -3,8 +3,7 @@
 use mathlib.Core.Path.{refl}
 use Prim.Native.Nat.{◌-◌}
 use native.Mathlib.Omega.{arith}
-use lib.ListN.{length}
-use Rattle.log_writer.proofs.Stores.{ChoicesPut, choices_length, choice_more, choices_put}
+use Rattle.log_writer.proofs.Stores.{choices_length, choice_more, choices_put}
 use Rattle.log_writer.proofs.put_choices.Goals as goal
 
 pub loop-i-init : goal.loop-i-init

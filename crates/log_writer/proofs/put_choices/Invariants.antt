@@ -1,10 +1,8 @@
 -- `log_writer::put_choices` meets its contract. The loop's invariant: the first i choices stand. The measure is how many are left.
 -- Assumes nothing.
-use mathlib.Core.Path.{refl}
 use Prim.Native.Nat.{◌-◌}
-use native.Mathlib.Omega.{arith}
 use lib.ListN.{length}
-use Rattle.log_writer.proofs.Stores.{ChoicesPut, choices_length, choice_more, choices_put}
+use Rattle.log_writer.proofs.Stores.{ChoicesPut}
 use Rattle.log_writer.proofs.put_choices.Given as goal
 
 abbrev pub invariant-loop-i : goal.invariant-loop-i

@@ -2,8 +2,7 @@
 -- Assumes nothing.
 use Prim.Native.Nat.{◌-◌}
 use native.Mathlib.Omega.{arith}
-use borrow.Author.Rules.{rules}
-use Rattle.log_writer.proofs.Stores.{DrawsPut, draws_none, draws_same_length, draw_more, draws_put}
+use Rattle.log_writer.proofs.Stores.{draws_none, draws_same_length, draw_more, draws_put}
 use Rattle.log_writer.proofs.put_draws.Goals as goal
 
 pub loop-i-init : goal.loop-i-init

@@ -1,9 +1,7 @@
 -- `log_writer::put_draws` meets its contract. The loop's invariant: i draws are made, and stand. The measure is how many are left.
 -- Assumes nothing.
 use Prim.Native.Nat.{◌-◌}
-use native.Mathlib.Omega.{arith}
-use borrow.Author.Rules.{rules}
-use Rattle.log_writer.proofs.Stores.{DrawsPut, draws_none, draws_same_length, draw_more, draws_put}
+use Rattle.log_writer.proofs.Stores.{DrawsPut}
 use Rattle.log_writer.proofs.put_draws.Given as goal
 
 abbrev pub invariant-loop-i : goal.invariant-loop-i

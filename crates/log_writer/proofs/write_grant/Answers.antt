@@ -2,7 +2,6 @@
 -- Assumes nothing.
 use mathlib.Core.Path.{refl}
 use native.Mathlib.Omega.{arith}
-use borrow.Author.Rules.{rules}
 use Rattle.model.specs.Log.{entry_bytes}
 use Rattle.log_writer.proofs.Writing.{unsayable, sayable, no_room, written}
 use Rattle.log_writer.proofs.write_grant.Goals as goal

@@ -1,10 +1,9 @@
 -- `log_writer::write_seeded` meets its contract: a job's workers are at most 64; the room tells the answer, and the entry is its first byte
 -- and the drawn choices behind it.
 -- Assumes nothing.
-use mathlib.Core.Path.{refl, ◌∙◌}
+use mathlib.Core.Path.{refl}
 use mathlib.Core.List.{[]}
 use native.Mathlib.Omega.{arith}
-use borrow.Author.Rules.{rules}
 use lib.ListN.{length-set}
 use Rattle.model.specs.Questions.{first_no}
 use Rattle.model.specs.Log.{entry_bytes}

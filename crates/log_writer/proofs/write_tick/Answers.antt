@@ -1,9 +1,7 @@
 -- `log_writer::write_tick` meets its contract: on each way out the tests that were made tell the answer, and the entry is its first byte
 -- and the choices behind it.
 -- Assumes nothing.
-use mathlib.Core.Path.{◌∙◌}
 use native.Mathlib.Omega.{arith}
-use borrow.Author.Rules.{rules}
 use lib.ListN.{length, length-set}
 use Rattle.model.specs.Log.{entry_bytes}
 use Rattle.log_writer.proofs.Writing.{unsayable, sayable, no_room, tick_written}

@@ -1,7 +1,5 @@
 -- `program::plan_output` meets its contract: a refused plan's number, or what the log left of the fresh job. Assumes nothing.
 use mathlib.Core.Path.{◌≡◌}
-use borrow.Author.Rules.{rules}
-use borrow.Author.Tests.{not-true, not-false}
 use Rattle.model.specs.Questions.{accepted}
 use Rattle.model.specs.Plan.{plan_answer}
 use Rattle.program.proofs.Asked.{refused_plan, accepted_plan, after_plan}

@@ -1,8 +1,7 @@
 -- `program::put_bytes` meets its contract. The loop's invariant: the bytes before the index are copied. Assumes nothing.
-use mathlib.Core.Path.{◌≡◌, refl, ap, ◌∙◌}
-use Prim.Native.Nat.{◌-◌, ◌≤◌}
+use mathlib.Core.Path.{ap, ◌∙◌}
+use Prim.Native.Nat.{◌-◌}
 use native.Mathlib.Omega.{arith}
-use lib.ListN.{length, take}
 use lib.Seq.{sets, take_all}
 use Rattle.program.proofs.Printing.{copied_length, copied_more}
 use Rattle.program.proofs.put_bytes.Goals as goal

@@ -1,10 +1,8 @@
 -- `program::put_bytes` meets its contract. The loop's invariant: the bytes before the index are copied. Assumes nothing.
-use mathlib.Core.Path.{◌≡◌, refl, ap, ◌∙◌}
+use mathlib.Core.Path.{◌≡◌}
 use Prim.Native.Nat.{◌-◌, ◌≤◌}
-use native.Mathlib.Omega.{arith}
 use lib.ListN.{length, take}
-use lib.Seq.{sets, take_all}
-use Rattle.program.proofs.Printing.{copied_length, copied_more}
+use lib.Seq.{sets}
 use Rattle.program.proofs.put_bytes.Given as goal
 
 abbrev pub invariant-loop-i : goal.invariant-loop-i

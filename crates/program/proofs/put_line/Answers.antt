@@ -1,7 +1,6 @@
 -- `program::put_line` meets its contract: the buffer is big enough, so the line stands there. Assumes nothing.
 use mathlib.Core.Path.{ap}
 use native.Mathlib.Omega.{arith}
-use borrow.Author.Rules.{rules}
 use Rattle.counters.specs.Line.{line_length}
 use Rattle.counters.proofs.Line.{Wide}
 use Rattle.program.proofs.Printing.{line_put}

@@ -4,7 +4,6 @@ use mathlib.Core.List.{List}
 use Prim.Native.Nat.{ℕ, ◌+◌}
 use native.Mathlib.Omega.{arith}
 use lib.Seq.{sets}
-use borrow.Author.Rules.{rules}
 use Rattle.digits.specs.Spelling.{field}
 use Rattle.program.proofs.Printing.{refused_long, refusal_put}
 use Rattle.program.proofs.put_refusal.Goals as goal
@@ -23,5 +22,8 @@ put_field-requires c =
 
 pub returns : goal.returns
 returns c =
-    let s = c.args in record { next = omega (arith, c.put_field.ensures.next, refused_long s.number); bytes = c.put_field.ensures.bytes
-    ∙ ap (λ (l : List ℕ). sets l (s.at + 8) (field s.number 10)) c.put_bytes.ensures ∙ refusal_put s.at s.number s.out.now }
+    let s = c.args in record {
+      next = omega (arith, c.put_field.ensures.next, refused_long s.number);
+      bytes = c.put_field.ensures.bytes
+          ∙ ap (λ (l : List ℕ). sets l (s.at + 8) (field s.number 10)) c.put_bytes.ensures ∙ refusal_put s.at s.number s.out.now;
+    }

@@ -2,7 +2,6 @@
 use mathlib.Core.Path.{refl}
 use native.Mathlib.Omega.{arith}
 use lib.Dec.{lit<}
-use borrow.Author.Rules.{rules}
 use Rattle.program.proofs.Ran.{whole_printed, refusal_room, broken_printed}
 use Rattle.program.proofs.ran_output.Goals as goal
 

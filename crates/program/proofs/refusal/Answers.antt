@@ -1,6 +1,5 @@
 -- `program::refusal` meets its contract: the line stands at the start. Assumes nothing.
 use native.Mathlib.Omega.{arith}
-use borrow.Author.Rules.{rules}
 use Rattle.program.proofs.Printing.{refused_short, prints_one}
 use Rattle.program.proofs.refusal.Goals as goal
 

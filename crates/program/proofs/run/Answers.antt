@@ -2,7 +2,6 @@
 use mathlib.Core.Path.{refl}
 use Prim.Native.Nat.{◌+◌, ◌*◌, ◌^◌, ◌<◌}
 use native.Mathlib.Omega.{arith}
-use borrow.Author.Rules.{rules}
 use Rattle.program.proofs.Asked.{too_long, no_length, cut_short, whole_input}
 use Rattle.program.proofs.run.Goals as goal
 
@@ -23,14 +22,24 @@ overflow_mul-end c =
 
 pub overflow_add-end : goal.overflow_add-end
 overflow_add-end c =
-    let two_bytes : c.wide.result * 256 + c.wide-2.result < 2 ^ 16 = let known = c.shared_slice_known-3-1.given in omega (arith,
-    c.wide-2.ensures, c.wide.ensures, known 0, known 1) in
+    let two_bytes : c.wide.result * 256 + c.wide-2.result < 2 ^ 16 = let known = c.shared_slice_known-3-1.given in omega (
+      arith,
+      c.wide-2.ensures,
+      c.wide.ensures,
+      known 0,
+      known 1,
+    ) in
     omega (arith, two_bytes)
 
 pub overflow_add-end-2 : goal.overflow_add-end-2
 overflow_add-end-2 c =
-    let two_bytes : c.wide.result * 256 + c.wide-2.result < 2 ^ 16 = let known = c.shared_slice_known-3-1.given in omega (arith,
-    c.wide-2.ensures, c.wide.ensures, known 0, known 1) in
+    let two_bytes : c.wide.result * 256 + c.wide-2.result < 2 ^ 16 = let known = c.shared_slice_known-3-1.given in omega (
+      arith,
+      c.wide-2.ensures,
+      c.wide.ensures,
+      known 0,
+      known 1,
+    ) in
     omega (arith, two_bytes)
 
 pub returns-then-input-end : goal.returns-then-input-end

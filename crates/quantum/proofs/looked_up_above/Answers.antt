@@ -1,5 +1,4 @@
 -- `quantum::looked_up_above` meets its contract: the next entry of the row, where there is one that is at most 64.
-use borrow.Author.Rules.{rules}
 use native.Mathlib.Numerals.{add-one}
 use Rattle.quantum.proofs.Desires.{goes_up, row_end_stays, last_stays}
 use Rattle.quantum.proofs.looked_up_above.Goals as goal

@@ -1,6 +1,5 @@
 -- `quantum::lowered_wish` meets its contract: one power less, and the desire divided or looked up.
 use mathlib.Core.Bool.{true, false}
-use borrow.Author.Rules.{rules}
 use native.Mathlib.Omega.{arith}
 use Rattle.quantum.proofs.Desires.{desired_in, lowered_in, some_to_take, one_less, divides, goes_down}
 use Rattle.quantum.proofs.lowered_wish.Goals as goal

@@ -1,5 +1,4 @@
 -- `quantum::multiplied` meets its contract: below the top desire there is room for R times the desire, and at the top there is none.
-use borrow.Author.Rules.{rules}
 use native.Mathlib.Omega.{arith}
 use native.Mathlib.Numerals.{add-one}
 use Rattle.quantum.proofs.Desires.{room, top_stays, multiplies}

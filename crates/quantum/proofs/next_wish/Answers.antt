@@ -1,6 +1,4 @@
 -- `quantum::next_wish` meets its contract: the three cases of a quantum's end.
-use borrow.Author.Rules.{rules}
-use borrow.Author.Tests.{not-true, not-false}
 use Rattle.quantum.proofs.Desires.{closed_inefficient, closed_deprived, closed_satisfied}
 use Rattle.quantum.proofs.next_wish.Goals as goal
 

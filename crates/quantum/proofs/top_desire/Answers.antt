@@ -1,6 +1,5 @@
 -- `quantum::top_desire` meets its contract: the constant's entries are those of model's table.
 use mathlib.Core.Path.{refl}
-use borrow.Author.Rules.{rules}
 use Rattle.model.specs.Machine.{top_desires}
 use Rattle.quantum.proofs.top_desire.Goals as goal
 

@@ -1,5 +1,4 @@
 -- `quantum::was_efficient` meets its contract: no product wraps.
-use borrow.Author.Rules.{rules}
 use native.Mathlib.Omega.{arith}
 use Rattle.quantum.proofs.Desires.{owed_fits, judged}
 use Rattle.quantum.proofs.was_efficient.Goals as goal

@@ -1,7 +1,6 @@
 -- `report::counters_of` meets its contract: each number is the job's, and fits its type.
 -- Assumes nothing.
 use native.Mathlib.Omega.{arith}
-use borrow.Author.Rules.{rules}
 use Rattle.engine.specs.Reached.{InRange}
 use Rattle.engine.proofs.Known.{in_range}
 use Rattle.report.proofs.Counted.{counted}

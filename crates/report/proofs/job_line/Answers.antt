@@ -1,6 +1,5 @@
 -- `report::job_line` meets its contract: the record's own ten numbers are model's of its state.
 -- Assumes nothing.
-use borrow.Author.Rules.{rules}
 use Rattle.report.proofs.job_line.Goals as goal
 
 pub counters_of-shown-requires : goal.counters_of-shown-requires

@@ -1,5 +1,4 @@
 -- `report::job_wording` meets its contract: the label of the record's own status. Assumes nothing.
-use borrow.Author.Rules.{rules}
 use mathlib.Core.Path.{◌∙◌}
 use Rattle.report.proofs.job_wording.Goals as goal
 

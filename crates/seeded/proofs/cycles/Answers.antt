@@ -1,7 +1,6 @@
 -- `seeded::cycles` meets its contract. The loop's invariant: a plain tick with the drawn choices is under way, and the state is that after
 -- as many draws as workers had their cycle. The measure is how many workers are left.
 use mathlib.Core.Path.{◌≡◌, refl, ap, ◌∙◌}
-use mathlib.Core.Logic.{⊎_elim}
 use Prim.Native.Nat.{ℕ, ◌+◌, ◌-◌, ◌<◌}
 use native.Mathlib.Omega.{arith}
 use borrow.Author.Rules.{rules}
@@ -12,7 +11,7 @@ use Rattle.memory.specs.Words.{numbers_in}
 use Rattle.memory.specs.View.{size_at}
 use Rattle.memory.proofs.Regions.{ends_part_at}
 use Rattle.tally.proofs.Tallying.{growing}
-use Rattle.turn.proofs.Ticking.{Underway, begin, addable, tick_over, work_turn, idle_turn, onward_work, onward_idle}
+use Rattle.turn.proofs.Ticking.{begin, addable, tick_over, work_turn, idle_turn, onward_work, onward_idle}
 use Rattle.seeded.specs.Drawn.{choices_for}
 use Rattle.seeded.proofs.Drawing.{one_each, few_workers, next_state, choice_is}
 use Rattle.seeded.proofs.cycles.Goals as goal
@@ -56,8 +55,11 @@ bounds-memory-size_at c =
 pub work_cycle-completed-requires : goal.work_cycle-completed-requires
 work_cycle-completed-requires c =
     let among : c.loop-w.w < (numbers_in c.args.words.now).workers = c.loop-w-test.true in
-    let each : c.loop-w.w < length (choices_for c.args.words.now c.args.seed) = omega (arith, among,
-    one_each c.args.words.now c.args.seed) in
+    let each : c.loop-w.w < length (choices_for c.args.words.now c.args.seed) = omega (
+      arith,
+      among,
+      one_each c.args.words.now c.args.seed,
+    ) in
     let few : (numbers_in c.args.words.now).workers < 65 = omega (arith, few_workers c.requires) in
     let own_size : let here = c.loop-w in get_or here.memory (4096 + size_at here.w) 0
     ≡ get_or (parts here.memory).ends (size_at here.w) 0 = let here = c.loop-w in
@@ -68,15 +70,23 @@ pub add_work-t-requires : goal.add_work-t-requires
 add_work-t-requires c =
     let few : (numbers_in c.args.words.now).workers < 65 = omega (arith, few_workers c.requires) in
     let among : c.loop-w.w < (numbers_in c.args.words.now).workers = c.loop-w-test.true in
-    let each : c.loop-w.w < length (choices_for c.args.words.now c.args.seed) = omega (arith, among,
-    one_each c.args.words.now c.args.seed) in
+    let each : c.loop-w.w < length (choices_for c.args.words.now c.args.seed) = omega (
+      arith,
+      among,
+      one_each c.args.words.now c.args.seed,
+    ) in
     let own_size : let here = c.loop-w in get_or here.memory (4096 + size_at here.w) 0
     ≡ get_or (parts here.memory).ends (size_at here.w) 0 = let here = c.loop-w in
     ends_part_at here.memory (size_at here.w) (omega (arith, among, few)) in
     let tick = c.requires.turn in
-    let turn = work_turn tick c.loop-w.invariant.0 each (omega (arith, own_size, c.if-memory-size_at-gt0.true)) in record { growing =
-    growing (addable tick c.loop-w.invariant.0 c.loop-w.w (omega arith) (omega (arith, among, few))); one_at_most = omega (arith,
-    (c.work_cycle-completed.ensures _ turn).one_at_most) }
+    let turn = work_turn tick c.loop-w.invariant.0 each (omega (arith, own_size, c.if-memory-size_at-gt0.true)) in record {
+      growing =
+          growing (addable tick c.loop-w.invariant.0 c.loop-w.w (omega arith) (omega (arith, among, few)));
+      one_at_most = omega (
+        arith,
+        (c.work_cycle-completed.ensures _ turn).one_at_most,
+      );
+    }
 
 -- ---- a worker that looks for a deque: its draw, and the choice read from it
 pub overflow_cast-workers : goal.overflow_cast-workers
@@ -96,8 +106,11 @@ overflow_cast-choice c =
 pub idle_cycle-t-requires : goal.idle_cycle-t-requires
 idle_cycle-t-requires c =
     let among : c.loop-w.w < (numbers_in c.args.words.now).workers = c.loop-w-test.true in
-    let each : c.loop-w.w < length (choices_for c.args.words.now c.args.seed) = omega (arith, among,
-    one_each c.args.words.now c.args.seed) in
+    let each : c.loop-w.w < length (choices_for c.args.words.now c.args.seed) = omega (
+      arith,
+      among,
+      one_each c.args.words.now c.args.seed,
+    ) in
     let few : (numbers_in c.args.words.now).workers < 65 = omega (arith, few_workers c.requires) in
     let own_size : let here = c.loop-w in get_or here.memory (4096 + size_at here.w) 0
     ≡ get_or (parts here.memory).ends (size_at here.w) 0 = let here = c.loop-w in
@@ -122,8 +135,11 @@ loop-w-smaller c =
 pub loop-w-preserved : goal.loop-w-preserved
 loop-w-preserved c =
     let among : c.loop-w.w < (numbers_in c.args.words.now).workers = c.loop-w-test.true in
-    let each : c.loop-w.w < length (choices_for c.args.words.now c.args.seed) = omega (arith, among,
-    one_each c.args.words.now c.args.seed) in
+    let each : c.loop-w.w < length (choices_for c.args.words.now c.args.seed) = omega (
+      arith,
+      among,
+      one_each c.args.words.now c.args.seed,
+    ) in
     let few : (numbers_in c.args.words.now).workers < 65 = omega (arith, few_workers c.requires) in
     let own_size : let here = c.loop-w in get_or here.memory (4096 + size_at here.w) 0
     ≡ get_or (parts here.memory).ends (size_at here.w) 0 = let here = c.loop-w in
@@ -133,13 +149,13 @@ loop-w-preserved c =
     let tick = c.requires.turn in
     let u = c.loop-w.invariant.0 in (
       elim c.if-memory-size_at-gt0.branch [
-        then-memory-size_at-gt0 w ↦
-          rw (w.memory-is, w.words-is, w.t-is)
-          (onward_work tick u each (omega (arith, own_size, w.if-memory-size_at-gt0.true)) (w.work_cycle-completed.ensures _)
-          w.add_work-t.ensures)
+        | then-memory-size_at-gt0 w ↦
+            rw (w.memory-is, w.words-is, w.t-is)
+            (onward_work tick u each (omega (arith, own_size, w.if-memory-size_at-gt0.true)) (w.work_cycle-completed.ensures _)
+            w.add_work-t.ensures)
         | else-memory-size_at-gt0 w ↦
-          let chosen = choice_is c.args.words.now c.args.seed c.loop-w.w among drawn_state w.choice-choice.ensures in
-          rw (w.memory-is, w.words-is, w.t-is) (onward_idle tick u each (rw chosen at w.idle_cycle-t.ensures))
+            let chosen = choice_is c.args.words.now c.args.seed c.loop-w.w among drawn_state w.choice-choice.ensures in
+            rw (w.memory-is, w.words-is, w.t-is) (onward_idle tick u each (rw chosen at w.idle_cycle-t.ensures))
       ],
       drawn_state,
     )

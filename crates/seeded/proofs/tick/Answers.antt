@@ -2,13 +2,10 @@
 -- choices, with workers or without.
 -- Assumes nothing.
 use mathlib.Core.Path.{◌≡◌, refl, sym, ap, ◌∙◌}
-use mathlib.Core.List.{List}
 use Prim.Native.Nat.{ℕ, ◌≤◌}
 use native.Mathlib.Omega.{arith}
-use borrow.Author.Rules.{rules}
 use Rattle.model.specs.Questions.{accepted, first_no}
 use Rattle.model.specs.Seeds.{seed_after, seeded_answer}
-use Rattle.memory.specs.declared.Job.{Job}
 use Rattle.memory.specs.Words.{numbers_in}
 use Rattle.memory.specs.Jobs.{lent, job_state}
 use Rattle.memory.proofs.Words.{same_tail}
@@ -25,8 +22,11 @@ pub returns-in_default : goal.returns-in_default
 returns-in_default c =
     let answered : answer_of c.seeded_answer-answer.result ≡ seeded_answer (job_state (lent c.args.memory.now c.args.words.now)) =
     c.seeded_answer-answer.ensures ∙ sym (seeded_asking (lent c.args.memory.now c.args.words.now) c.requires.2.kept.done_right) in
-    record { answered = answered; ticks =
-    seeded_stays _ c.requires.2 c.seeded_answer-answer.result answered (refusing _ c.in_default.not-Accepted) }
+    record {
+      answered = answered;
+      ticks =
+          seeded_stays _ c.requires.2 c.seeded_answer-answer.result answered (refusing _ c.in_default.not-Accepted);
+    }
 
 pub end_tick-requires : goal.end_tick-requires
 end_tick-requires c =
@@ -49,9 +49,12 @@ returns-then-words-eq0 c =
     let r = c.requires.2 in
     let seed = c.args.seed.now in
     let nobody : (numbers_in (lent c.args.memory.now c.args.words.now).words).workers ≡ 0 = omega (arith, c.if-words-eq0.true) in
-    record { answered = answered; ticks =
-    seeded_moves seed r asked (idle_tick (choices_for (lent c.args.memory.now c.args.words.now).words c.args.seed.now) r plainly nobody
-    c.end_tick.ensures) (ap (λ (n : ℕ). seed_after n seed) (sym nobody)) }
+    record {
+      answered = answered;
+      ticks =
+          seeded_moves seed r asked (idle_tick (choices_for (lent c.args.memory.now c.args.words.now).words c.args.seed.now) r plainly nobody
+          c.end_tick.ensures) (ap (λ (n : ℕ). seed_after n seed) (sym nobody));
+    }
 
 pub cycles-requires : goal.cycles-requires
 cycles-requires c =
@@ -85,6 +88,9 @@ returns c =
     let plainly : first_no (tick_asked (lent c.args.memory.now c.args.words.now).words (choices_for (lent c.args.memory.now
     c.args.words.now).words c.args.seed.now)) ≡ accepted = asked_plainly _ c.requires.2 asked in
     let r = c.requires.2 in
-    let done = c.cycles.ensures in record { answered = answered; ticks =
-    seeded_moves c.args.seed.now r asked (worked_tick (choices_for (lent c.args.memory.now c.args.words.now).words c.args.seed.now) r
-    plainly done.ticked c.end_tick-2.ensures) done.drawn_on }
+    let done = c.cycles.ensures in record {
+      answered = answered;
+      ticks =
+          seeded_moves c.args.seed.now r asked (worked_tick (choices_for (lent c.args.memory.now c.args.words.now).words c.args.seed.now) r
+          plainly done.ticked c.end_tick-2.ensures) done.drawn_on;
+    }

@@ -1,6 +1,5 @@
 -- `tally::add_mug` meets its contract: the other counts stay.
 use mathlib.Core.Path.{refl}
-use borrow.Author.Rules.{rules}
 use Rattle.tally.proofs.add_mug.Goals as goal
 
 pub returns : goal.returns

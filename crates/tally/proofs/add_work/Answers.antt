@@ -1,6 +1,5 @@
 -- `tally::add_work` meets its contract: the mug cycles stay.
 use mathlib.Core.Path.{refl}
-use borrow.Author.Rules.{rules}
 use Rattle.tally.proofs.add_work.Goals as goal
 
 pub returns : goal.returns

@@ -1,6 +1,5 @@
 -- `tally::no_tally` meets its contract.
 use mathlib.Core.Path.{refl}
-use borrow.Author.Rules.{rules}
 use Rattle.tally.proofs.no_tally.Goals as goal
 
 pub returns : goal.returns

@@ -1,7 +1,6 @@
 -- `tally::settle` meets its contract: each step reads and stores as in Settling.
 use mathlib.Core.Path.{◌≡◌}
 use native.Mathlib.Omega.{arith}
-use borrow.Author.Rules.{rules}
 use Rattle.tally.proofs.Settling.{with_works, with_steals, with_mugs, works_added, steals_added, mugs_added, usage_fits, works_fit}
 use Rattle.tally.proofs.Settling.{steals_fit, mugs_fit, head_fits, enough_wait, head_aside, settled_unmugged, settled_mugged}
 use Rattle.tally.proofs.settle.Goals as goal

@@ -1,16 +1,14 @@
 -- `turn::cycles` meets its contract. The loop's invariant: the model's cycles of all workers are those of the workers that are left, from
 -- what memory and words show now. The measure is how many workers are left.
 use mathlib.Core.Path.{◌≡◌}
-use mathlib.Core.Logic.{⊎_elim}
 use Prim.Native.Nat.{◌+◌, ◌-◌}
 use native.Mathlib.Omega.{arith}
-use borrow.Author.Rules.{rules}
-use lib.ListN.{length, get_or}
+use lib.ListN.{get_or}
 use Rattle.memory.specs.Parts.{parts}
 use Rattle.memory.specs.View.{size_at}
 use Rattle.memory.proofs.Regions.{ends_part_at}
 use Rattle.tally.proofs.Tallying.{growing}
-use Rattle.turn.proofs.Ticking.{Underway, begin, few_choices, addable, tick_over}
+use Rattle.turn.proofs.Ticking.{begin, few_choices, addable, tick_over}
 use Rattle.turn.proofs.Ticking.{work_turn, idle_turn, onward_work, onward_idle}
 use Rattle.turn.proofs.cycles.Goals as goal
 use Rattle.turn.proofs.cycles.Goals.{then-memory-size_at-gt0, else-memory-size_at-gt0}
@@ -53,9 +51,14 @@ add_work-t-requires c =
     ends_part_at here.memory (size_at here.w) (omega (arith, c.loop-w-test.true, few_choices c.requires)) in
     let tick = c.requires in
     let l = c.loop-w-test.true in
-    let turn = work_turn tick c.loop-w.invariant l (omega (arith, own_size, c.if-memory-size_at-gt0.true)) in record { growing =
-    growing (addable tick c.loop-w.invariant c.loop-w.w (omega arith) (omega (arith, l, few_choices tick))); one_at_most = omega (arith,
-    (c.work_cycle-completed.ensures _ turn).one_at_most) }
+    let turn = work_turn tick c.loop-w.invariant l (omega (arith, own_size, c.if-memory-size_at-gt0.true)) in record {
+      growing =
+          growing (addable tick c.loop-w.invariant c.loop-w.w (omega arith) (omega (arith, l, few_choices tick)));
+      one_at_most = omega (
+        arith,
+        (c.work_cycle-completed.ensures _ turn).one_at_most,
+      );
+    }
 
 pub bounds-choices-w : goal.bounds-choices-w
 bounds-choices-w c =
@@ -86,10 +89,13 @@ loop-w-preserved c =
     let l = c.loop-w-test.true in
     let u = c.loop-w.invariant in
     elim c.if-memory-size_at-gt0.branch [
-      then-memory-size_at-gt0 w ↦
-        rw (w.memory-is, w.words-is, w.t-is)
-        (onward_work tick u l (omega (arith, own_size,
-        w.if-memory-size_at-gt0.true)) (w.work_cycle-completed.ensures _) w.add_work-t.ensures)
+      | then-memory-size_at-gt0 w ↦
+          rw (w.memory-is, w.words-is, w.t-is)
+          (onward_work tick u l (omega (
+            arith,
+            own_size,
+            w.if-memory-size_at-gt0.true,
+          )) (w.work_cycle-completed.ensures _) w.add_work-t.ensures)
       | else-memory-size_at-gt0 w ↦ rw (w.memory-is, w.words-is, w.t-is) (onward_idle tick u l w.idle_cycle-t.ensures)
     ]
 

@@ -3,7 +3,6 @@ use mathlib.Core.Path.{◌≡◌, refl}
 use Prim.Native.Nat.{◌+◌}
 use native.Mathlib.Omega.{arith}
 use lib.ListN.{get_or}
-use borrow.Author.Rules.{rules}
 use Rattle.memory.specs.Parts.{parts}
 use Rattle.memory.specs.View.{size_at}
 use Rattle.memory.proofs.Regions.{ends_part_at}

@@ -1,5 +1,4 @@
 -- `work::complete` meets its contract.
-use borrow.Author.Rules.{rules}
 use Prim.Native.Nat.{◌<◌}
 use native.Mathlib.Omega.{arith}
 use Rattle.work.proofs.Working.{worker_here, task_here, own_filled, all_releasable, one_fits, one_waits}

@@ -1,5 +1,4 @@
 -- `work::work_cycle` meets its contract.
-use borrow.Author.Rules.{rules}
 use Prim.Native.Nat.{◌<◌}
 use native.Mathlib.Omega.{arith}
 use Rattle.work.proofs.Working.{worker_place, task_inside, span_some, more_ticks, last_ticked}
