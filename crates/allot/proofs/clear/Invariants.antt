@@ -5,8 +5,9 @@ use Rattle.allot.proofs.Clears.{Clearing}
 use Rattle.allot.proofs.clear.Given as goal
 
 abbrev pub invariant-loop-worker : goal.invariant-loop-worker
-invariant-loop-worker l = Clearing (parts l.initial.memory).ends l.workers l.g (parts l.memory).ends l.worker × SameButEnds (parts
-l.initial.memory) (parts l.memory)
+invariant-loop-worker l =
+    Clearing (parts l.initial.memory).ends l.workers l.g (parts l.memory).ends l.worker
+    × SameButEnds (parts l.initial.memory) (parts l.memory)
 
 abbrev pub decreases-loop-worker : goal.decreases-loop-worker
 decreases-loop-worker l = l.g - l.worker

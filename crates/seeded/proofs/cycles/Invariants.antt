@@ -8,8 +8,9 @@ use Rattle.seeded.specs.Drawn.{choices_for}
 use Rattle.seeded.proofs.cycles.Given as goal
 
 abbrev pub invariant-loop-w : goal.invariant-loop-w
-invariant-loop-w l = Underway l.initial.memory l.initial.words (choices_for l.initial.words l.seed) l.memory l.words l.t l.w × (l.s
-≡ seed_after l.w l.seed)
+invariant-loop-w l =
+    Underway l.initial.memory l.initial.words (choices_for l.initial.words l.seed) l.memory l.words l.t l.w
+    × (l.s ≡ seed_after l.w l.seed)
 
 abbrev pub decreases-loop-w : goal.decreases-loop-w
 decreases-loop-w l = l.workers - l.w

@@ -52,7 +52,8 @@ returns-then-words-eq0 c =
     record {
       answered = answered;
       ticks =
-          seeded_moves seed r asked (idle_tick (choices_for (lent c.args.memory.now c.args.words.now).words c.args.seed.now) r plainly nobody
+          seeded_moves seed r asked (idle_tick (choices_for
+          (lent c.args.memory.now c.args.words.now).words c.args.seed.now) r plainly nobody
           c.end_tick.ensures) (ap (λ (n : ℕ). seed_after n seed) (sym nobody));
     }
 
