@@ -1,10 +1,13 @@
 // Document 01's examples on the job record by value. That the record may be handed to a call is shown from the contracts alone, as are
 // examples 3 and 4; the rest is run, and what it prints, lines and wordings, is compared.
+#![tactic(auto)]
+
 ghost use Rattle.engine.specs.Reached.{IsJob};
 
 use counters::LineAnswer;
 use log_reader::Entry;
 use memory::Job;
+use std::io;
 
 const PLAN_A: [u8; 17] = [21, 64, 0, 8, 3, 128, 8, 2, 64, 24, 0, 64, 24, 0, 0, 0, 0];
 
@@ -43,46 +46,52 @@ fn played(job: Job, log: &[u8]) -> Job
 }
 
 // The first bytes of a buffer, on standard output.
-fn print_front(buffer: &[u8], size: usize) {
+fn print_front(out: &impl Print, buffer: &[u8], size: usize) -> io::Result<()> {
     if size <= buffer.len() {
-        io::write_all(1, &buffer[0..size]);
+        out.write_all(&buffer[0..size])?;
     }
+    Ok(())
 }
 
 // The counters line of a record.
-fn show_line(job: Job)
+fn show_line(out: &impl Print, job: Job) -> io::Result<()>
     requires { IsJob job }
 {
     let mut line = [0u8; 128];
     match report::job_line(job, 0, &mut line) {
-        LineAnswer::Written(size) => print_front(&line, size),
+        LineAnswer::Written(size) => print_front(out, &line, size)?,
         LineAnswer::TooSmall => {}
     }
+    Ok(())
 }
 
 // The wording of a record's status, the part of the sheet itself: `refusal [bytes]`.
-fn show_wording(job: Job, sheet: &[u8])
+fn show_wording(out: &impl Print, job: Job, sheet: &[u8]) -> io::Result<()>
     requires { IsJob job }
 {
     let mut refusal: u8 = 255;
     let part = report::job_wording(job, sheet, &mut refusal);
     let told = refusal;
-    io::print_decimal(1, told as u64);
-    io::write_all(1, b" [");
-    io::write_all(1, part);
-    io::write_all(1, b"]\n");
+    out.print(told as u64)?;
+    out.write_all(b" [")?;
+    out.write_all(part)?;
+    out.write_all(b"]\n")
 }
 
 // Accepts a plan and plays a log on its record; then its line, and its wording in a sheet.
-fn example(bytes: &[u8], log: &[u8], sheet: &[u8]) {
+fn example(out: &impl Print, bytes: &[u8], log: &[u8], sheet: &[u8]) -> io::Result<()> {
     let acceptance = job::accept(bytes);
     let answer = acceptance.answer;
     let job = acceptance.job;
     if plan_fields::passed(answer) {
         let last = played(job, log);
-        show_line(last);
-        show_wording(last, sheet);
+        // a record is not copied as a whole, but its parts are
+        let memory = last.memory;
+        let words = last.words;
+        show_line(out, Job { memory, words })?;
+        show_wording(out, last, sheet)?;
     }
+    Ok(())
 }
 
 // Examples 3 and 4 from the contracts alone: Plan A is accepted, a first grant of 2 is refused by 14, and the status is then 0.
@@ -99,31 +108,34 @@ fn contracts_alone() {
     check::expect(status::number_of(status) == 0);
 }
 
-fn main() {
+fn main(rt: HostRuntime) -> io::Result<()> {
     let sheet = b"fresh\nrunning\nheld\nfinished\n";
     contracts_alone();
     // 1
     example(
+        &rt,
         &PLAN_A,
         &[1, 129, 0, 129, 0, 2, 130, 0, 0, 130, 0, 0],
         sheet,
-    );
+    )?;
     // 2
     example(
+        &rt,
         &PLAN_A,
         &[1, 129, 0, 129, 0, 0, 128, 128, 1, 129, 0, 129, 0, 1, 129, 0],
         sheet,
-    );
+    )?;
     // 2 as far as its grant of 0: held
-    example(&PLAN_A, &[1, 129, 0, 129, 0, 0], sheet);
+    example(&rt, &PLAN_A, &[1, 129, 0, 129, 0, 0], sheet)?;
     // 3
-    example(&PLAN_A, &[], sheet);
+    example(&rt, &PLAN_A, &[], sheet)?;
     // 4: the first grant is refused, the second accepted
-    example(&PLAN_A, &[2, 0], sheet);
+    example(&rt, &PLAN_A, &[2, 0], sheet)?;
     // 7: after the second tick worker 1 has stolen a task
-    example(&SEVEN, &[1, 129, 0, 2, 130, 0, 0], sheet);
+    example(&rt, &SEVEN, &[1, 129, 0, 2, 130, 0, 0], sheet)?;
     // 9
-    example(&ONE, &[1, 129, 0], sheet);
+    example(&rt, &ONE, &[1, 129, 0], sheet)?;
     // 9 with a sheet that has no line for a finished job: 19 and an empty part
-    example(&ONE, &[1, 129, 0], b"fresh\nrunning\nheld\nfinished");
+    example(&rt, &ONE, &[1, 129, 0], b"fresh\nrunning\nheld\nfinished")?;
+    Ok(())
 }
