@@ -1,6 +1,6 @@
 -- The case at a place of a set is the first of the stored cases from that place on.
 -- Assumes nothing.
-use mathlib.Core.Path.{◌≡◌, refl, ap, ◌∙◌}
+use mathlib.Core.Path.{◌≡◌, refl, sym, ap, ◌∙◌}
 use mathlib.Core.Bool.{Bool, true, false, cond}
 use mathlib.Core.List.{List, [], ◌∷◌}
 use Prim.Native.Nat.{ℕ, zero, suc, ◌+◌, ◌*◌, ◌-◌, ◌≤◌, ◌<◌}
@@ -120,6 +120,11 @@ module _ (set : List ℕ) (at : ℕ) where
   pub says : (placed : Placed) → placed ≡ placed_of set at → Says set at placed
   unfolding placed_of
   says placed e = rw e (says_there _ refl)
+
+-- a place that is read as a whole case has one
+pub whole_here : {set : List ℕ} {at input expected : ℕ} {placed : Placed} → placed ≡ Whole input expected → placed ≡ placed_of set at →
+    CaseHere set at input expected
+whole_here {set} {at} {input} {expected} is read = says set at (Whole input expected) (sym is ∙ read)
 
 -- the cases from a case on, by where its parts stand
 pub stored_here : (set : List ℕ) (at input expected : ℕ) → CaseHere set at input expected →

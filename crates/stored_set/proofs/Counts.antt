@@ -1,4 +1,4 @@
--- What is counted after the cases so far: that the start holds it, that one case more keeps it, and that it gives the tally at the end.
+-- What is counted after the cases so far: that one case more keeps it, and that it gives the tally at the end.
 -- Assumes nothing.
 use mathlib.Core.Path.{◌≡◌, refl, sym, ap, ◌∙◌}
 use mathlib.Core.Bool.{Bool, true, false, cond}
@@ -67,16 +67,6 @@ module _ (set : List ℕ) where
     pub whole_left : (stored (drop at set)).whole ≡ (stored set).whole
     pub few : (same ≤ cases) × (cases ≤ at)
     pub inside : at ≤ length set
-
-  pub starts : CasesSoFar 0 0 0
-  starts =
-      record {
-        counted = omega arith;
-        said_so_far = omega arith;
-        whole_left = refl;
-        few = (omega arith, omega arith);
-        inside = omega arith;
-      }
 
   module _ (cases same at : ℕ) (so_far : CasesSoFar cases same at) where
     -- one case more

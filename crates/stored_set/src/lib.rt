@@ -1,5 +1,7 @@
 // The stored set of the second implementation, `rust/reference`, run through the proved program and compared. `run` has the promise: it
 // counts the cases of the set and those for which the program prints what is stored. `specs/Stored.antt` has the set's form.
+#![tactic(auto)]
+
 ghost use Rattle.std.specs.Prelude.{◌≡◌, cond};
 ghost use Rattle.model.specs.Program.{program};
 ghost use Rattle.stored_set.specs.Stored.{same_bytes, placed_of, stored, tally_of, verdict_of};
