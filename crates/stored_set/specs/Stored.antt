@@ -1,6 +1,7 @@
 -- The stored set of a second implementation: its cases one after the other, each an input's size in three bytes, the input, the size of
 -- what was printed in one byte, and what was printed. And what running the set counts.
-use Rattle.std.specs.Prelude.{Bool, true, false, cond, ◌&&◌, List, [], ◌∷◌, ℕ, zero, suc, ◌+◌, ◌-◌, eqb, leb, ltb, length, get_or, take, drop}
+use Rattle.std.specs.Prelude.{Bool, true, false, cond, ◌&&◌, List, [], ◌∷◌, ℕ, zero, suc}
+use Rattle.std.specs.Prelude.{◌+◌, ◌-◌, eqb, leb, ltb, length, get_or, take, drop}
 use Rattle.model.specs.Tests.{keep}
 use Rattle.model.specs.Plan.{number}
 use Rattle.model.specs.Program.{program}
