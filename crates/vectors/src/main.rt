@@ -1,7 +1,7 @@
 // Runs the stored set that it reads on standard input, and prints what `stored_set` counts and judges.
 #![tactic(auto)]
 
-ghost use Rattle.std.specs.Prelude.{◌≡◌};
+ghost use Rattle.std.specs.Prelude.{◌≡◌, ◌≤◌, length, IfOk};
 
 use std::io;
 use std::io::Read;
@@ -30,20 +30,43 @@ fn write_verdict(out: &impl Print, verdict: Verdict) -> io::Result<()> {
     }
 }
 
-// How many bytes are read at most: those of the longest set and one byte more, so that a set that is too long is seen to be.
-fn room() -> u64
-    ensures { 524289 ≡ result }
+// Room for the longest set and one byte more, so that a set that is too long is seen to be.
+fn room() -> [u8; 524289]
+    ensures { 524289 ≡ length result }
 {
-    524289
+    [0; 524289]
+}
+
+// Reads until the buffer is full or the input ends, in as many pieces as it comes in, and answers how many bytes were read. A read that is
+// interrupted is made again; another error is handed back.
+fn read_full<R: Read>(input: &mut R, buffer: &mut [u8]) -> io::Result<usize>
+    ensures { IfOk result (λ n. n ≤ length buffer.new) }
+{
+    let mut filled = 0;
+    for _ in 0..u64::MAX {
+        if filled >= buffer.len() {
+            break;
+        }
+        match input.read(&mut buffer[filled..]) {
+            Ok(0) => break,
+            Ok(n) => filled += n,
+            Err(e) => {
+                if e.kind() != io::ErrorKind::Interrupted {
+                    return Err(e);
+                }
+            }
+        }
+    }
+    Ok(filled)
 }
 
 fn main(rt: HostRuntime) -> io::Result<()> {
-    let mut input = Vec::new(rt.alloc());
-    rt.stdin().take(room()).read_to_end(&mut input)?;
-    if input.len() > 524288 {
+    let mut input = room();
+    let size = read_full(&mut rt.stdin(), &mut input)?;
+    if size > 524288 {
         return rt.write_all(b"THE SET IS TOO LONG: more than 524288 bytes\n");
     }
-    let tally = stored_set::run(&input);
+    let tally = stored_set::run(&input[..size]);
     write_tally(&rt, tally)?;
     write_verdict(&rt, stored_set::judge(tally))
 }
