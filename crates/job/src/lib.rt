@@ -20,14 +20,14 @@ use plan_fields::PlanAnswer;
 use status::Status;
 
 // The answer, and the record where it is Accepted. On a refusal there is no record: what stands there is the blank.
-#[derive(Drop)]
+#[derive(Clone, Copy)]
 pub struct Acceptance {
     pub answer: PlanAnswer,
     pub job: Job,
 }
 
 // The answer, and the record after the call.
-#[derive(Drop)]
+#[derive(Clone, Copy)]
 pub struct Called {
     pub answer: CallAnswer,
     pub job: Job,

@@ -85,10 +85,7 @@ fn example(out: &impl Print, bytes: &[u8], log: &[u8], sheet: &[u8]) -> io::Resu
     let job = acceptance.job;
     if plan_fields::passed(answer) {
         let last = played(job, log);
-        // a record is not copied as a whole, but its parts are
-        let memory = last.memory;
-        let words = last.words;
-        show_line(out, Job { memory, words })?;
+        show_line(out, last)?;
         show_wording(out, last, sheet)?;
     }
     Ok(())

@@ -141,7 +141,7 @@ module _ (plan : Plan) (s : State) (choices : List ℕ) (answer : call_answer (t
           granted = rw (← one_each) l;
           unfinished_before = before;
           finished_after = after;
-          up_to_it = λ w up_to_lem.
+          up_to_it = λ w no_later.
               let there : w + (f - w) ≡ f = omega arith in
               one_more plan.graph choices 0 w s.execution (omega arith)
               ∙ rw zero-add refl

@@ -46,7 +46,7 @@ pub fn past_at(log: &[u8], at: usize) -> usize
 }
 
 // "Entries are read one after the other from the same lent bytes": a log, and a place in it.
-#[derive(Drop)]
+#[derive(Clone, Copy)]
 pub struct LogReader<'a> {
     pub log: &'a [u8],
     pub at: usize,

@@ -68,14 +68,14 @@ pub const POWER: usize = 19;
 
 pub const NOTE: usize = 20;
 
-#[derive(Drop)]
+#[derive(Clone, Copy)]
 pub struct Job {
     pub memory: Memory,
     pub words: Words,
 }
 
 // A deque: its front, and how many tasks it has.
-#[derive(Drop)]
+#[derive(Clone, Copy)]
 pub struct Deque {
     pub front: u16,
     pub size: u16,

@@ -13,7 +13,7 @@ use day_log::LogAnswer;
 use memory::Words;
 
 // What is printed: the first `size` of the bytes. The longest output is a counters line and `refused 18`, 138 bytes.
-#[derive(Drop)]
+#[derive(Clone, Copy)]
 pub struct Output {
     pub bytes: [u8; 256],
     pub size: usize,
