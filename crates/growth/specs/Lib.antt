@@ -1,0 +1,2 @@
+-- Meaning: what model says of each case.
+pub mod Meaning

@@ -1,0 +1,2 @@
+-- Answers: the answer that a `Result` is.
+pub mod Answers
