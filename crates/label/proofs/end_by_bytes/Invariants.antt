@@ -1,12 +1,6 @@
--- `label::end_by_bytes` meets its contract. The loop's invariant: no byte 10 is passed. The measure is what is left of the sheet.
--- Assumes nothing.
-use Prim.Native.Nat.{◌-◌}
-use lib.ListN.{length}
+-- `label::end_by_bytes` meets its contract. The loop's invariant: no byte 10 is passed. Assumes nothing.
 use Rattle.label.specs.Ends.{Passed}
 use Rattle.label.proofs.end_by_bytes.Given as goal
 
-abbrev pub invariant-loop-i : goal.invariant-loop-i
-invariant-loop-i l = Passed l.sheet l.from l.i
-
-abbrev pub decreases-loop-i : goal.decreases-loop-i
-decreases-loop-i l = length l.sheet - l.i
+abbrev pub invariant-loop-at : goal.invariant-loop-at
+invariant-loop-at l = Passed l.sheet l.from l.at

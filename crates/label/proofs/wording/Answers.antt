@@ -4,10 +4,10 @@ use native.Mathlib.Omega.{arith}
 use Rattle.label.proofs.Part.{part_within}
 use Rattle.label.proofs.wording.Goals as goal
 
-pub overflow_add-end : goal.overflow_add-end
-overflow_add-end c =
-    omega (arith, part_within _ _ _ _ c.in-At.ensures.stretch)
+pub overflow_add-result : goal.overflow_add-result
+overflow_add-result c =
+    omega (arith, part_within _ _ _ _ c.in_ok-start.ensures.stretch)
 
-pub slice_bounds-result-end-2 : goal.slice_bounds-result-end-2
-slice_bounds-result-end-2 c =
-    part_within _ _ _ _ c.in-At.ensures.stretch
+pub slice_bounds-result-end : goal.slice_bounds-result-end
+slice_bounds-result-end c =
+    part_within _ _ _ _ c.in_ok-start.ensures.stretch
