@@ -7,6 +7,7 @@ use native.Mathlib.Omega.{arith}
 use lib.Dec.{lit<}
 use lib.ListN.{length}
 use borrow.Author.Tests.{le-leb, lt-leb}
+use Rattle.std.specs.Prelude.{Ok, Err}
 use Rattle.model.specs.Questions.{first_no}
 use Rattle.model.specs.Plan.{Plan}
 use Rattle.model.specs.Machine.{State}
@@ -17,7 +18,7 @@ use Rattle.status.specs.declared.Status.TheVariants.{Fresh, Running, Held, Finis
 use Rattle.status.specs.Number.{status_number}
 use Rattle.digits.proofs.Decimal.{count_within}
 use Rattle.counters.specs.declared.Counters.{Counters}
-use Rattle.counters.specs.declared.LineAnswer.TheVariants.{Written, TooSmall}
+use Rattle.counters.specs.declared.TooSmall.{TooSmall}
 use Rattle.counters.specs.Line.{numbers_of, WritesLine}
 use Rattle.counters.proofs.Spaced.{spaced_length}
 
@@ -68,14 +69,14 @@ line_within k w =
     )
 
 -- a buffer of fewer than 128 bytes, and any other
-pub too_small : (ten buffer : List ℕ) → length buffer < 128 → WritesLine ten buffer buffer TooSmall
+pub too_small : (ten buffer : List ℕ) → length buffer < 128 → (why : TooSmall) → WritesLine ten buffer buffer (Err why)
 unfolding counters_answer first_no
-too_small ten buffer h =
+too_small ten buffer h why =
     let small = lt-leb 128 (length buffer) h in
     record { answered = rw small refl; sized = rw small refl; bytes = rw small refl }
 
 pub big_enough : (ten buffer : List ℕ) → 128 ≤ length buffer →
-    WritesLine ten buffer (put_at_start (spaced ten) buffer) (Written (line_size ten))
+    WritesLine ten buffer (put_at_start (spaced ten) buffer) (Ok (line_size ten))
 unfolding counters_answer first_no
 big_enough ten buffer h =
     let big = le-leb 128 (length buffer) h in

@@ -5,12 +5,13 @@
 ghost use Rattle.std.specs.Prelude.{◌≡◌, ◌≤◌, length};
 ghost use Rattle.model.specs.Counters.{spaced, put_at_start};
 ghost use Rattle.model.specs.Digits.{line_size};
-ghost use Rattle.counters.specs.Line.{numbers_of, WritesLine};
+ghost use Rattle.counters.specs.Line.{numbers_of, too_small_number, WritesLine};
 
+use refusals::Refusal;
 use status::Status;
 
 // The ten numbers of a counters line. The types' widths alone keep the line to 127 bytes.
-#[derive(Clone, Copy)]
+#[derive(Clone, Copy, Debug, PartialEq, Eq)]
 pub struct Counters {
     pub status: Status,
     pub worked: u16,
@@ -24,32 +25,36 @@ pub struct Counters {
     pub refusals: u64,
 }
 
-// What writing a line gives. specs/Line.antt gives document 01's number and the line's length for each case.
-#[derive(Clone, Copy)]
-pub enum LineAnswer {
-    // The line stands at the buffer's start: how many bytes it has, byte 10 included.
-    Written(usize),
-    // The buffer has fewer than 128 bytes: 20.
-    TooSmall,
+// The buffer has fewer than 128 bytes: 20.
+#[derive(Clone, Copy, Debug, PartialEq, Eq)]
+pub struct TooSmall;
+
+impl Refusal for TooSmall {
+    ghost number = { too_small_number };
+
+    fn number(self) -> u8 {
+        20
+    }
 }
 
 // The ten numbers, in the line's order.
-pub fn numbers(counters: Counters) -> [u64; 10]
-    ensures { result ≡ numbers_of counters }
-{
-    let status = counters.status;
-    [
-        status::number_of(status) as u64,
-        counters.worked as u64,
-        counters.tasks as u64,
-        counters.desire as u64,
-        counters.allotment as u64,
-        counters.work,
-        counters.mug,
-        counters.steal,
-        counters.successes,
-        counters.refusals,
-    ]
+impl From<Counters> for [u64; 10] {
+    ghost from_gives = { λ counters numbers. numbers ≡ numbers_of counters };
+
+    fn from(counters: Counters) -> [u64; 10] {
+        [
+            u64::from(u8::from(counters.status)),
+            u64::from(counters.worked),
+            u64::from(counters.tasks),
+            u64::from(counters.desire),
+            u64::from(counters.allotment),
+            counters.work,
+            counters.mug,
+            counters.steal,
+            counters.successes,
+            counters.refusals,
+        ]
+    }
 }
 
 // Puts the ten numbers at the buffer's start, each straight to its place, with one space between and byte 10 after, and answers how many
@@ -59,25 +64,25 @@ fn put_numbers(counters: Counters, buffer: &mut [u8]) -> usize
     ensures sized { result ≡ line_size (numbers_of counters) }
     ensures bytes { buffer.new ≡ put_at_start (spaced (numbers_of counters)) buffer.old }
 {
-    let status = counters.status;
-    let mut at = digits::put_field(buffer, 0, status::number_of(status) as u64, 32);
-    at = digits::put_field(buffer, at, counters.worked as u64, 32);
-    at = digits::put_field(buffer, at, counters.tasks as u64, 32);
-    at = digits::put_field(buffer, at, counters.desire as u64, 32);
-    at = digits::put_field(buffer, at, counters.allotment as u64, 32);
-    at = digits::put_field(buffer, at, counters.work, 32);
-    at = digits::put_field(buffer, at, counters.mug, 32);
-    at = digits::put_field(buffer, at, counters.steal, 32);
-    at = digits::put_field(buffer, at, counters.successes, 32);
-    digits::put_field(buffer, at, counters.refusals, 10)
+    let mut at = digits::put_field(buffer, 0, u64::from(u8::from(counters.status)), b' ');
+    at = digits::put_field(buffer, at, u64::from(counters.worked), b' ');
+    at = digits::put_field(buffer, at, u64::from(counters.tasks), b' ');
+    at = digits::put_field(buffer, at, u64::from(counters.desire), b' ');
+    at = digits::put_field(buffer, at, u64::from(counters.allotment), b' ');
+    at = digits::put_field(buffer, at, counters.work, b' ');
+    at = digits::put_field(buffer, at, counters.mug, b' ');
+    at = digits::put_field(buffer, at, counters.steal, b' ');
+    at = digits::put_field(buffer, at, counters.successes, b' ');
+    digits::put_field(buffer, at, counters.refusals, b'\n')
 }
 
-// Writes the counters line at the start of a buffer of 128 bytes or more. Bytes after the line stay; a smaller buffer stays as it is.
-pub fn write_line(counters: Counters, buffer: &mut [u8]) -> LineAnswer
+// Writes the counters line at the start of a buffer of 128 bytes or more, and answers how many bytes it has, byte 10 included. Bytes after
+// the line stay; a smaller buffer stays as it is.
+pub fn write_line(counters: Counters, buffer: &mut [u8]) -> Result<usize, TooSmall>
     ensures { WritesLine (numbers_of counters) buffer.old buffer.new result }
 {
     if buffer.len() < 128 {
-        return LineAnswer::TooSmall;
+        return Err(TooSmall);
     }
-    LineAnswer::Written(put_numbers(counters, buffer))
+    Ok(put_numbers(counters, buffer))
 }

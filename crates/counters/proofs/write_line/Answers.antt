@@ -5,7 +5,7 @@ use Rattle.counters.proofs.write_line.Goals as goal
 
 pub returns-then-buffer-lt128 : goal.returns-then-buffer-lt128
 returns-then-buffer-lt128 c =
-    too_small _ _ (omega arith)
+    too_small _ _ (omega arith) _
 
 pub put_numbers-requires : goal.put_numbers-requires
 put_numbers-requires c =
