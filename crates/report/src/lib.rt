@@ -8,10 +8,12 @@ ghost use Rattle.label.specs.Wording.{IsWording};
 ghost use Rattle.counters.specs.Line.{WritesLine};
 ghost use Rattle.report.specs.Shown.{CountersOf, shown_numbers};
 
-use counters::{Counters, LineAnswer};
+use counters::{Counters, TooSmall};
+use label::NoLine;
 use memory::{Job, Words};
 
 // The ten numbers of a job, off its words, with a log's count of refused calls, 0 without a log.
+#[tactic(auto, using(crate::proofs::Counted::words_in_range, crate::proofs::Counted::counted))]
 pub fn counters_of(words: &Words, refusals: u64) -> Counters
     requires { JobWords words.now }
     ensures { CountersOf words.now refusals result }
@@ -37,21 +39,19 @@ pub fn counters_of(words: &Words, refusals: u64) -> Counters
 
 // Writes a record's counters line at the start of a buffer of 128 bytes or more, and answers how many bytes it has; a smaller buffer stays
 // as it is.
-pub fn job_line(job: Job, refusals: u64, buffer: &mut [u8]) -> LineAnswer
-    requires { IsJob job }
-    ensures { WritesLine (shown_numbers job refusals) buffer.old buffer.new result }
+#[tactic(auto, using(crate::proofs::Counted::of_record))]
+pub fn job_line(job: &Job, refusals: u64, buffer: &mut [u8]) -> Result<usize, TooSmall>
+    requires { IsJob job.now }
+    ensures { WritesLine (shown_numbers job.now refusals) buffer.old buffer.new result }
 {
-    let words = job.words;
-    let shown = counters_of(&words, refusals);
-    counters::write_line(shown, buffer)
+    counters::write_line(counters_of(&job.words, refusals), buffer)
 }
 
-// The wording of a record's status: the part of the lent sheet itself, where it stands there, with 0 behind `refusal`. Where the sheet has
-// no such line, the empty part at its start, with 19 behind `refusal`.
-pub fn job_wording<'a>(job: Job, sheet: &'a [u8], refusal: &mut u8) -> &'a [u8]
-    requires { IsJob job }
-    ensures { IsWording sheet.entry (status (job_state job)) result refusal.new }
+// The wording of a record's status: the part of the lent sheet itself, where it stands there.
+#[tactic(auto, using(crate::proofs::Counted::of_record))]
+pub fn job_wording<'a>(job: &Job, sheet: &'a [u8]) -> Result<&'a [u8], NoLine>
+    requires { IsJob job.now }
+    ensures { IsWording sheet.entry (status (job_state job.now)) result }
 {
-    let shown = job::job_status(job);
-    label::wording(sheet, status::number_of(shown), refusal)
+    label::wording(sheet, u8::from(job::status_of(&job.words)))
 }

@@ -4,5 +4,5 @@ use Rattle.report.proofs.job_wording.Goals as goal
 
 pub returns : goal.returns
 returns c =
-    let same = c.number_of.ensures ∙ c.job_status-shown.ensures in
+    let same = c.from.ensures ∙ c.status_of.ensures.right _ c.requires in
     rw (← same) c.wording.ensures
