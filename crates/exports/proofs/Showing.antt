@@ -3,19 +3,21 @@
 use mathlib.Core.Path.{◌≡◌, ap, ◌∙◌}
 use mathlib.Core.List.{List}
 use Prim.Native.Nat.{ℕ}
+use Rattle.std.specs.Prelude.{Result}
 use Rattle.model.specs.Questions.{answer_number}
 use Rattle.model.specs.Label.{Stretch, label, label_answer}
 use Rattle.model.specs.Counters.{counters_line, buffer_after}
-use Rattle.label.specs.declared.Found.{Found}
+use Rattle.label.specs.declared.NoLine.{NoLine}
+use Rattle.label.specs.declared.Stretch.{Stretch as Line}
 use Rattle.label.specs.Found.{found_answer, found_stretch}
 use Rattle.counters.specs.declared.Counters.{Counters}
-use Rattle.counters.specs.declared.LineAnswer.{LineAnswer}
+use Rattle.counters.specs.declared.TooSmall.{TooSmall}
 use Rattle.counters.specs.Line.{numbers_of, line_answer, line_length, WritesLine}
 use Rattle.report.specs.Shown.{CountersOf}
 use Rattle.exports.specs.Promises.{ShowsStatus, ShowsLine, ShowsWording}
 
 -- what looking for the status's line found
-pub wording_shown : (words sheet : List ℕ) (number : ℕ) (found : Found) → ShowsStatus words number →
+pub wording_shown : (words sheet : List ℕ) (number : ℕ) (found : Result Line NoLine) → ShowsStatus words number →
     found_answer found ≡ label_answer sheet number → found_stretch found ≡ label sheet number →
     ShowsWording words sheet (found_stretch found).start (found_stretch found).size (answer_number (found_answer found))
 wording_shown words sheet number found shown answered stretch =
@@ -30,7 +32,7 @@ wording_shown words sheet number found shown answered stretch =
 
 -- what writing the line answered
 pub line_shown : {words : List ℕ} {refusals : ℕ} {k : Counters} → CountersOf words refusals k → {buffer buffer' : List ℕ}
-    {answer : LineAnswer} → WritesLine (numbers_of k) buffer buffer' answer →
+    {answer : Result ℕ TooSmall} → WritesLine (numbers_of k) buffer buffer' answer →
     ShowsLine words refusals buffer buffer' (line_length answer) (answer_number (line_answer answer))
 unfolding counters_line buffer_after
 line_shown shown written =

@@ -11,9 +11,8 @@ ghost use Rattle.engine.specs.Reached.{IsJob, JobWords};
 ghost use Rattle.engine.specs.Moves.{Accepts, Moves};
 ghost use Rattle.exports.specs.Promises.{call_number, CallsWords, ShowsStatus, ShowsCounters, ShowsLine, ShowsWording};
 
-use counters::LineAnswer;
-use label::Found;
 use memory::{Memory, Words};
+use refusals::Refusal;
 
 // A plan of any bytes: the memory becomes its fresh job, whatever it held before. Refused, the memory stays as it came.
 #[unsafe(no_mangle)]
@@ -85,8 +84,7 @@ fn status_in(words: &Words) -> u8
     requires { JobWords words.now }
     ensures { ShowsStatus words.now result }
 {
-    let shown = job::status_of(words);
-    status::number_of(shown)
+    u8::from(job::status_of(words))
 }
 
 // The status of the job.
@@ -109,15 +107,18 @@ pub extern "C" fn jirvaldo_core_wording(
     requires { JobWords words.now }
     ensures { ShowsWording words.now sheet.now start.new size.new result }
 {
-    let found = label::find(sheet, status_in(words));
-    let Found::At(from, count) = found else {
-        *start = 0;
-        *size = 0;
-        return 19;
-    };
-    *start = from;
-    *size = count;
-    0
+    match label::find(sheet, status_in(words)) {
+        Ok(line) => {
+            *start = line.start;
+            *size = line.size;
+            0
+        }
+        Err(missing) => {
+            *start = 0;
+            *size = 0;
+            missing.number()
+        }
+    }
 }
 
 // The ten numbers of the job's counters line.
@@ -126,7 +127,7 @@ pub extern "C" fn jirvaldo_core_counters(words: &Words, refusals: u64, numbers: 
     requires { JobWords words.now }
     ensures { ShowsCounters words.now refusals numbers.new }
 {
-    *numbers = counters::numbers(report::counters_of(words, refusals));
+    *numbers = report::counters_of(words, refusals).into();
 }
 
 // The job's counters line at the start of a buffer of 128 bytes or more, and its size behind `size`. Refused (20), the buffer stays as it
@@ -141,11 +142,14 @@ pub extern "C" fn jirvaldo_core_line(
     requires { JobWords words.now }
     ensures { ShowsLine words.now refusals buffer.old buffer.new size.new result }
 {
-    let answer = counters::write_line(report::counters_of(words, refusals), buffer);
-    let LineAnswer::Written(length) = answer else {
-        *size = 0;
-        return 20;
-    };
-    *size = length;
-    0
+    match counters::write_line(report::counters_of(words, refusals), buffer) {
+        Ok(length) => {
+            *size = length;
+            0
+        }
+        Err(too_small) => {
+            *size = 0;
+            too_small.number()
+        }
+    }
 }

@@ -5,4 +5,4 @@ use Rattle.exports.proofs.jirvaldo_core_counters.Goals as goal
 
 pub returns : goal.returns
 returns c =
-    record { right = λ memory job. c.numbers.ensures ∙ c.counters_of.ensures.right memory job }
+    record { right = λ memory job. c.into.ensures ∙ c.counters_of.ensures.right memory job }

@@ -3,9 +3,10 @@
 use Rattle.exports.proofs.Showing.{line_shown}
 use Rattle.exports.proofs.jirvaldo_core_line.Goals as goal
 
-pub returns-in_default : goal.returns-in_default
-returns-in_default c = line_shown c.counters_of.ensures (rw c.in_default.is at c.write_line-answer.ensures)
+pub returns-in-Ok : goal.returns-in-Ok
+returns-in-Ok c =
+    line_shown c.counters_of.ensures c.in-Ok.ensures
 
-pub returns : goal.returns
-returns c =
-    line_shown c.counters_of.ensures (rw c.in-Written.is at c.write_line-answer.ensures)
+pub returns-in-Err : goal.returns-in-Err
+returns-in-Err c =
+    rw c.number.ensures (line_shown c.counters_of.ensures c.in-Err.ensures)
