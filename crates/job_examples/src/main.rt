@@ -4,9 +4,9 @@
 
 ghost use Rattle.engine.specs.Reached.{IsJob};
 
-use counters::LineAnswer;
 use log_reader::Entry;
 use memory::Job;
+use refusals::Refusal;
 use std::io;
 
 const PLAN_A: [u8; 17] = [21, 64, 0, 8, 3, 128, 8, 2, 64, 24, 0, 64, 24, 0, 0, 0, 0];
@@ -54,28 +54,28 @@ fn print_front(out: &impl Print, buffer: &[u8], size: usize) -> io::Result<()> {
 }
 
 // The counters line of a record.
-fn show_line(out: &impl Print, job: Job) -> io::Result<()>
-    requires { IsJob job }
+fn show_line(out: &impl Print, job: &Job) -> io::Result<()>
+    requires { IsJob job.now }
 {
     let mut line = [0u8; 128];
-    match report::job_line(job, 0, &mut line) {
-        LineAnswer::Written(size) => print_front(out, &line, size)?,
-        LineAnswer::TooSmall => {}
+    if let Ok(size) = report::job_line(job, 0, &mut line) {
+        print_front(out, &line, size)?;
     }
     Ok(())
 }
 
 // The wording of a record's status, the part of the sheet itself: `refusal [bytes]`.
-fn show_wording(out: &impl Print, job: Job, sheet: &[u8]) -> io::Result<()>
-    requires { IsJob job }
+fn show_wording(out: &impl Print, job: &Job, sheet: &[u8]) -> io::Result<()>
+    requires { IsJob job.now }
 {
-    let mut refusal: u8 = 255;
-    let part = report::job_wording(job, sheet, &mut refusal);
-    let told = refusal;
-    out.print(told as u64)?;
-    out.write_all(b" [")?;
-    out.write_all(part)?;
-    out.write_all(b"]\n")
+    match report::job_wording(job, sheet) {
+        Ok(part) => {
+            print!(out; "0 [")?;
+            out.write_all(part)?;
+        }
+        Err(missing) => print!(out; "{} [", missing.number())?,
+    }
+    println!(out; "]")
 }
 
 // Accepts a plan and plays a log on its record; then its line, and its wording in a sheet.
@@ -85,8 +85,8 @@ fn example(out: &impl Print, bytes: &[u8], log: &[u8], sheet: &[u8]) -> io::Resu
     let job = acceptance.job;
     if plan_fields::passed(answer) {
         let last = played(job, log);
-        show_line(out, last)?;
-        show_wording(out, last, sheet)?;
+        show_line(out, &last)?;
+        show_wording(out, &last, sheet)?;
     }
     Ok(())
 }
@@ -102,7 +102,7 @@ fn contracts_alone() {
     check::expect(call_questions::number(refusal) == 14);
     let same = called.job;
     let status = job::job_status(same);
-    check::expect(status::number_of(status) == 0);
+    check::expect(u8::from(status) == 0);
 }
 
 fn main(rt: HostRuntime) -> io::Result<()> {

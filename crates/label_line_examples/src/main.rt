@@ -2,53 +2,33 @@
 // What is printed is held to the file stdout.
 #![tactic(auto)]
 
-use counters::{Counters, LineAnswer};
-use label::Found;
+use counters::Counters;
+use label::Stretch;
+use refusals::Refusal;
 use status::Status;
 use std::io;
 
-fn word(out: &impl Print, text: &[u8]) -> io::Result<()> {
-    out.write_all(text)
-}
-
-fn number(out: &impl Print, n: u64) -> io::Result<()> {
-    out.print(n)
-}
-
 // A status's number, place and wording: `refusal start size [bytes]`.
 fn show_label(out: &impl Print, sheet: &[u8], status: u8) -> io::Result<()> {
-    let mut refusal: u8 = 255;
-    let part = label::wording(sheet, status, &mut refusal);
-    let told = refusal;
-    number(out, told as u64)?;
-    word(out, b" ")?;
+    let wording = label::wording(sheet, status);
+    let refusal = match wording {
+        Ok(_) => 0,
+        Err(missing) => missing.number(),
+    };
     match label::find(sheet, status) {
-        Found::At(start, size) => {
-            number(out, start as u64)?;
-            word(out, b" ")?;
-            number(out, size as u64)?;
-        }
-        Found::Missing => word(out, b"none")?,
+        Ok(Stretch { start, size }) => print!(out; "{refusal} {start} {size} [")?,
+        Err(_) => print!(out; "{refusal} none [")?,
     }
-    word(out, b" [")?;
-    word(out, part)?;
-    word(out, b"]\n")
+    out.write_all(wording.unwrap_or(b""))?;
+    println!(out; "]")
 }
 
+// The four statuses, and what is past the fourth line.
 fn labels(out: &impl Print) -> io::Result<()> {
     let sheet = b"idle\n\nheld back\ndone\nfifth\ncut";
-    show_label(out, sheet, 0)?;
-    show_label(out, sheet, 1)?;
-    show_label(out, sheet, 2)?;
-    show_label(out, sheet, 3)?;
-    Ok(())
-}
-
-fn labels_past_the_fourth(out: &impl Print) -> io::Result<()> {
-    let sheet = b"idle\n\nheld back\ndone\nfifth\ncut";
-    show_label(out, sheet, 4)?;
-    show_label(out, sheet, 5)?;
-    show_label(out, sheet, 255)?;
+    for status in [0, 1, 2, 3, 4, 5, 255] {
+        show_label(out, sheet, status)?;
+    }
     Ok(())
 }
 
@@ -56,36 +36,33 @@ fn small_sheets(out: &impl Print) -> io::Result<()> {
     show_label(out, b"", 0)?;
     show_label(out, b"\n", 0)?;
     show_label(out, b"\n", 1)?;
-    show_label(out, b"cut", 0)?;
-    Ok(())
+    show_label(out, b"cut", 0)
 }
 
 fn largest_status(out: &impl Print) -> io::Result<()> {
     let lines = [10u8; 256];
     show_label(out, &lines, 255)?;
-    show_label(out, &lines[..255], 255)?;
-    Ok(())
+    show_label(out, &lines[..255], 255)
 }
 
 // The answer's length or number, and the buffer after the call, between bars.
 fn show_line(out: &impl Print, counters: Counters, buffer: &mut [u8]) -> io::Result<()> {
     match counters::write_line(counters, buffer) {
-        LineAnswer::Written(length) => number(out, length as u64)?,
-        LineAnswer::TooSmall => word(out, b"20")?,
+        Ok(length) => print!(out; "{length} |")?,
+        Err(too_small) => print!(out; "{} |", too_small.number())?,
     }
-    word(out, b" |")?;
-    word(out, buffer)?;
-    word(out, b"|\n")
+    out.write_all(buffer)?;
+    println!(out; "|")
 }
 
 fn largest() -> Counters {
-    let most: u64 = 18446744073709551615;
+    let most = u64::MAX;
     Counters {
         status: Status::Finished,
-        worked: 65535,
-        tasks: 65535,
-        desire: 255,
-        allotment: 255,
+        worked: u16::MAX,
+        tasks: u16::MAX,
+        desire: u8::MAX,
+        allotment: u8::MAX,
         work: most,
         mug: most,
         steal: most,
@@ -114,8 +91,7 @@ fn small_buffers(out: &impl Print) -> io::Result<()> {
     show_line(out, example(Status::Fresh), &mut few)?;
     let mut short = [46u8; 127];
     show_line(out, example(Status::Fresh), &mut short)?;
-    show_line(out, largest(), &mut short)?;
-    Ok(())
+    show_line(out, largest(), &mut short)
 }
 
 fn buffers(out: &impl Print) -> io::Result<()> {
@@ -126,53 +102,49 @@ fn buffers(out: &impl Print) -> io::Result<()> {
     show_line(out, example(Status::Finished), &mut longer)?;
     let mut other = [46u8; 128];
     show_line(out, largest(), &mut other)?;
-    show_line(out, example(Status::Held), &mut other)?;
-    Ok(())
+    show_line(out, example(Status::Held), &mut other)
 }
 
 // A number put from the second of 23 bytes on, with a bar after it: the next place, and the bytes.
 fn show_number(out: &impl Print, n: u64) -> io::Result<()> {
     let mut buffer = [46u8; 23];
-    let next = digits::put_field(&mut buffer, 1, n, 124);
-    number(out, next as u64)?;
-    word(out, b" [")?;
-    word(out, &buffer)?;
-    word(out, b"]\n")
+    let next = digits::put_field(&mut buffer, 1, n, b'|');
+    print!(out; "{next} [")?;
+    out.write_all(&buffer)?;
+    println!(out; "]")
 }
 
 fn short_numbers(out: &impl Print) -> io::Result<()> {
-    show_number(out, 0)?;
-    show_number(out, 9)?;
-    show_number(out, 10)?;
-    show_number(out, 99)?;
-    show_number(out, 100)?;
-    show_number(out, 999)?;
-    show_number(out, 1000)?;
-    show_number(out, 9999)?;
-    show_number(out, 10000)?;
+    let short = [0, 9, 10, 99, 100, 999, 1000, 9999, 10000];
+    for n in short {
+        show_number(out, n)?;
+    }
     Ok(())
 }
 
 fn long_numbers(out: &impl Print) -> io::Result<()> {
-    show_number(out, 99999)?;
-    show_number(out, 100000)?;
-    show_number(out, 99999999)?;
-    show_number(out, 100000000)?;
-    show_number(out, 10200304050)?;
-    show_number(out, 9999999999999999999)?;
-    show_number(out, 10000000000000000000)?;
-    show_number(out, 18446744073709551615)?;
+    let long = [
+        99999,
+        100000,
+        99999999,
+        100000000,
+        10200304050,
+        9999999999999999999,
+        10000000000000000000,
+        u64::MAX,
+    ];
+    for n in long {
+        show_number(out, n)?;
+    }
     Ok(())
 }
 
 fn main(rt: HostRuntime) -> io::Result<()> {
     labels(&rt)?;
-    labels_past_the_fourth(&rt)?;
     small_sheets(&rt)?;
     largest_status(&rt)?;
     small_buffers(&rt)?;
     buffers(&rt)?;
     short_numbers(&rt)?;
-    long_numbers(&rt)?;
-    Ok(())
+    long_numbers(&rt)
 }

@@ -1,6 +1,6 @@
 -- Bytes put at a place of the output: copied one by one, the line of a refusal, the counters line; and the output read back from its start.
 -- Assumes nothing.
-use mathlib.Core.Path.{◌≡◌, sym, ap, ◌∙◌}
+use mathlib.Core.Path.{◌≡◌, refl, sym, ap, ◌∙◌}
 use mathlib.Core.List.{List, [], ◌∷◌, ◌++◌, append_assoc}
 use Prim.Native.Nat.{ℕ, ◌+◌, ◌^◌, ◌≤◌, ◌<◌}
 use native.Mathlib.Numerals.{add-one}
@@ -8,12 +8,14 @@ use native.Mathlib.Omega.{arith}
 use lib.ListN.{length, take, drop, get_or, set, length-append}
 use lib.Seq.{sets, length-sets, take-suc, take_at, length-take-le}
 use borrow.Author.Tests.{le-leb}
+use Rattle.std.specs.Prelude.{Result, Ok, Err}
+use Rattle.std.specs.Result.{result_unwrap_or}
 use Rattle.model.specs.Questions.{Answer, accepted, first_no, by_answer}
 use Rattle.model.specs.Counters.{decimal, spaced, counters_answer, put_at_start}
 use Rattle.model.specs.Digits.{digit_count, line_size}
 use Rattle.model.specs.Program.{refused_line}
 use Rattle.counters.specs.declared.Counters.{Counters}
-use Rattle.counters.specs.declared.LineAnswer.{LineAnswer}
+use Rattle.counters.specs.declared.TooSmall.{TooSmall}
 use Rattle.counters.specs.Line.{numbers_of, line_length, WritesLine}
 use Rattle.digits.specs.Spelling.{field}
 use Rattle.digits.proofs.Decimal.{count_within}
@@ -62,7 +64,12 @@ enough : (b : List ℕ) → 128 ≤ length b → counters_answer b ≡ accepted
 unfolding counters_answer first_no
 enough b h = rw (le-leb 128 (length b) h)
 
-pub line_put : (k : Counters) → Wide k → {b exit : List ℕ} {answer : LineAnswer} (size : ℕ) → 128 ≤ length b →
+-- how many bytes the line has, 0 where there is none
+pub length_or_0 : (answer : Result ℕ TooSmall) → line_length answer ≡ result_unwrap_or answer 0
+length_or_0 (Ok size) = refl
+length_or_0 (Err _) = refl
+
+pub line_put : (k : Counters) → Wide k → {b exit : List ℕ} {answer : Result ℕ TooSmall} (size : ℕ) → 128 ≤ length b →
     WritesLine (numbers_of k) b exit answer → line_length answer ≡ size → LinePut k b exit size
 line_put k w {b} size room written g =
     let counts : size ≡ line_size (numbers_of k) =

@@ -8,7 +8,7 @@ ghost use Rattle.model.specs.Program.{refused_line, log_output, output_by, progr
 ghost use Rattle.engine.specs.Reached.{JobWords};
 ghost use Rattle.program.specs.Output.{Prints, LinePut, PrintsRan};
 
-use counters::{Counters, LineAnswer};
+use counters::Counters;
 use day_log::LogAnswer;
 use memory::Words;
 
@@ -63,10 +63,7 @@ fn put_line(counters: Counters, out: &mut [u8]) -> usize
     requires { 128 ≤ length out.old }
     ensures { LinePut counters out.old out.new result }
 {
-    match counters::write_line(counters, out) {
-        LineAnswer::Written(size) => size,
-        LineAnswer::TooSmall => 0,
-    }
+    counters::write_line(counters, out).unwrap_or(0)
 }
 
 // The counters line of a job's words, and after a broken log `refused 18`.

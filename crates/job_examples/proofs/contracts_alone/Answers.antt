@@ -25,7 +25,7 @@ job_status-status-requires c =
 
 pub expect-requires-3 : goal.expect-requires-3
 expect-requires-3 c =
-    eq-eqb c.number_of.result 0
-    (c.number_of.ensures
+    eq-eqb c.from.result 0
+    (c.from.ensures
     ∙ c.job_status-status.ensures
     ∙ still_fresh c.accept-acceptance.ensures.accepts c.grant-called.ensures.moves)

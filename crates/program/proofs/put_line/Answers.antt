@@ -1,21 +1,11 @@
 -- `program::put_line` meets its contract: the buffer is big enough, so the line stands there. Assumes nothing.
-use mathlib.Core.Path.{ap}
+use mathlib.Core.Path.{sym, ◌∙◌}
 use native.Mathlib.Omega.{arith}
-use Rattle.counters.specs.Line.{line_length}
 use Rattle.counters.proofs.Line.{Wide}
-use Rattle.program.proofs.Printing.{line_put}
+use Rattle.program.proofs.Printing.{line_put, length_or_0}
 use Rattle.program.proofs.put_line.Goals as goal
 
-pub returns-in-Written : goal.returns-in-Written
-returns-in-Written c =
+pub returns : goal.returns
+returns c =
     let wide : Wide c.args.counters = omega (arith, c.well_formed.0) in
-    let called = c.write_line in
-    line_put _ wide _ c.requires called.ensures
-    (ap line_length c.in-Written.is)
-
-pub returns-in-TooSmall : goal.returns-in-TooSmall
-returns-in-TooSmall c =
-    let wide : Wide c.args.counters = omega (arith, c.well_formed.0) in
-    let called = c.write_line in
-    line_put _ wide _ c.requires called.ensures
-    (ap line_length c.in-TooSmall.is)
+    line_put _ wide _ c.requires c.write_line.ensures (length_or_0 c.write_line.result ∙ sym c.unwrap_or.ensures)
