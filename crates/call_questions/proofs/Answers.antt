@@ -1,22 +1,15 @@
--- Question 17, choice by choice. And an answer that is not `Accepted` is a refusal.
+-- Question 17, choice by choice.
 -- Assumes nothing.
 use mathlib.Core.Path.{◌≡◌, refl}
 use mathlib.Core.Bool.{Bool, true, false, ◌&&◌}
-use mathlib.Core.List.{List, [], ◌∷◌}
+use mathlib.Core.List.{List}
 use Prim.Native.Nat.{ℕ, ◌+◌, ◌<◌}
 use native.Mathlib.Numerals.{add-one}
 use lib.Dec.{ltb}
 use lib.ListN.{length, get_or, drop}
 use lib.Seq.{drop-cons, drop-length}
 use Rattle.model.specs.Tests.{every}
-use Rattle.model.specs.Questions.{refused}
-use Rattle.call_questions.specs.declared.CallAnswer.{CallAnswer}
-use Rattle.call_questions.specs.declared.CallAnswer.TheVariants.{Accepted, Finished, QuantumOpen, QuantaSpent, TooManyWorkers}
-use Rattle.call_questions.specs.declared.CallAnswer.TheVariants.{NoQuantum, WrongChoiceCount, BadChoice, NoOffer, OfferNoted}
-use Rattle.call_questions.specs.Answers.{answer_of}
 use Rattle.call_questions.specs.Asked.{choices_below}
-
--- ---- 17, choice by choice
 
 module _ (choices : List ℕ) (workers i : ℕ) where
   -- one more of the choices that are left is asked
@@ -34,22 +27,3 @@ module _ (choices : List ℕ) (workers i : ℕ) where
   unfolding every
   choices_passed true end = rw (end, drop-length choices)
   choices_passed false end = refl
-
--- ---- refusals
-
-pub record IsRefusal (answer : CallAnswer) : Type 0 where
-  pub number : ℕ
-  pub told : answer_of answer ≡ refused number
-
--- every answer but `Accepted` is a refusal
-pub refusing : (answer : CallAnswer) → (answer ≡ Accepted → ⊥) → IsRefusal answer
-refusing Accepted h = absurd (h refl)
-refusing Finished h = record { number = _; told = refl }
-refusing QuantumOpen h = record { number = _; told = refl }
-refusing QuantaSpent h = record { number = _; told = refl }
-refusing TooManyWorkers h = record { number = _; told = refl }
-refusing NoQuantum h = record { number = _; told = refl }
-refusing WrongChoiceCount h = record { number = _; told = refl }
-refusing BadChoice h = record { number = _; told = refl }
-refusing NoOffer h = record { number = _; told = refl }
-refusing OfferNoted h = record { number = _; told = refl }

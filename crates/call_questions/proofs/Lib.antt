@@ -1,3 +1,3 @@
--- Answers: 17 choice by choice, and what a refusal is. Asking: the questions of the code are the model's.
+-- Answers: 17 choice by choice. Asking: the questions of the code are the model's.
 pub mod Answers
 pub mod Asking

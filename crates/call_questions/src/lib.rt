@@ -2,20 +2,20 @@
 
 // The questions of each call, 11 to 17, 24 and 25, asked of a job's words.
 ghost use Rattle.std.specs.Prelude.{◌≡◌, ◌<◌};
-ghost use Rattle.model.specs.Questions.{answer_number, first_no};
+ghost use Rattle.model.specs.Questions.{first_no};
 ghost use Rattle.memory.specs.Words.{numbers_in};
-ghost use Rattle.call_questions.specs.Answers.{answer_of};
+ghost use Rattle.call_questions.specs.Answers.{refusal_number, answer_of};
 ghost use Rattle.call_questions.specs.Asked.{grant_asked, open_asked, withdraw_asked, tick_asked, seeded_asked, choices_below};
 
 use memory::Words;
+use refusals::Refusal;
 
 // So many quanta may begin: model's quantum_limit.
 const QUANTUM_LIMIT: u64 = 4096;
 
-// One case for each number of the paper, which answer_of gives.
-#[derive(Clone, Copy)]
-pub enum CallAnswer {
-    Accepted,
+// Why a call is refused: one case for each number of the paper, which refusal_number gives.
+#[derive(Clone, Copy, Debug, PartialEq, Eq)]
+pub enum CallRefusal {
     Finished,
     QuantumOpen,
     QuantaSpent,
@@ -27,115 +27,113 @@ pub enum CallAnswer {
     OfferNoted,
 }
 
-// The paper's number of a refusal, and 0 for acceptance.
-pub fn number(answer: CallAnswer) -> u8
-    ensures { result ≡ answer_number (answer_of answer) }
-{
-    match answer {
-        CallAnswer::Accepted => 0,
-        CallAnswer::Finished => 11,
-        CallAnswer::QuantumOpen => 12,
-        CallAnswer::QuantaSpent => 13,
-        CallAnswer::TooManyWorkers => 14,
-        CallAnswer::NoQuantum => 15,
-        CallAnswer::WrongChoiceCount => 16,
-        CallAnswer::BadChoice => 17,
-        CallAnswer::NoOffer => 24,
-        CallAnswer::OfferNoted => 25,
+impl Refusal for CallRefusal {
+    ghost number = { refusal_number };
+
+    fn number(self) -> u8 {
+        match self {
+            CallRefusal::Finished => 11,
+            CallRefusal::QuantumOpen => 12,
+            CallRefusal::QuantaSpent => 13,
+            CallRefusal::TooManyWorkers => 14,
+            CallRefusal::NoQuantum => 15,
+            CallRefusal::WrongChoiceCount => 16,
+            CallRefusal::BadChoice => 17,
+            CallRefusal::NoOffer => 24,
+            CallRefusal::OfferNoted => 25,
+        }
     }
 }
 
 // Questions 11 to 13, 25 and 14, of a grant and of an offer.
-pub fn grant_answer(words: &Words, g: u64) -> CallAnswer
+pub fn grant_answer(words: &Words, g: u64) -> Result<(), CallRefusal>
     ensures { answer_of result ≡ first_no (grant_asked words.now g) }
 {
     if words[memory::DONE] == words[memory::TASKS] {
-        return CallAnswer::Finished;
+        return Err(CallRefusal::Finished);
     }
     if words[memory::OPEN] != 0 {
-        return CallAnswer::QuantumOpen;
+        return Err(CallRefusal::QuantumOpen);
     }
     if words[memory::BEGUN] >= QUANTUM_LIMIT {
-        return CallAnswer::QuantaSpent;
+        return Err(CallRefusal::QuantaSpent);
     }
     if words[memory::NOTE] != 0 {
-        return CallAnswer::OfferNoted;
+        return Err(CallRefusal::OfferNoted);
     }
     if g > words[memory::DESIRE] {
-        return CallAnswer::TooManyWorkers;
+        return Err(CallRefusal::TooManyWorkers);
     }
-    CallAnswer::Accepted
+    Ok(())
 }
 
 // Questions 24 and 14, of an opening. The note is the offered count and 1.
-pub fn open_answer(words: &Words, c: u64) -> CallAnswer
+pub fn open_answer(words: &Words, c: u64) -> Result<(), CallRefusal>
     ensures { answer_of result ≡ first_no (open_asked words.now c) }
 {
     let note = words[memory::NOTE];
     if note == 0 {
-        return CallAnswer::NoOffer;
+        return Err(CallRefusal::NoOffer);
     }
     if c >= note {
-        return CallAnswer::TooManyWorkers;
+        return Err(CallRefusal::TooManyWorkers);
     }
-    CallAnswer::Accepted
+    Ok(())
 }
 
 // Question 24, of a withdrawal.
-pub fn withdraw_answer(words: &Words) -> CallAnswer
+pub fn withdraw_answer(words: &Words) -> Result<(), CallRefusal>
     ensures { answer_of result ≡ first_no (withdraw_asked words.now) }
 {
     if words[memory::NOTE] == 0 {
-        return CallAnswer::NoOffer;
+        return Err(CallRefusal::NoOffer);
     }
-    CallAnswer::Accepted
+    Ok(())
 }
 
-// Question 17, of every choice; with no way out of the loop but its end, so that many are asked at once.
+// Question 17, of every choice; with no way out of the loop but its end: it is compiled to ask many at once.
 fn all_below(choices: &[u8], workers: u8) -> bool
     ensures { result ≡ choices_below choices.now workers }
 {
     let mut below = true;
-    let mut i = 0;
-    while i < choices.len() {
-        below = below & (choices[i] < workers);
-        i += 1;
+    for choice in choices {
+        below = below & (*choice < workers);
     }
     below
 }
 
 // Questions 11 and 15 to 17. As many choices as workers are at most 64, so that the number of workers fits a byte where 17 is asked.
-pub fn tick_answer(words: &Words, choices: &[u8]) -> CallAnswer
+pub fn tick_answer(words: &Words, choices: &[u8]) -> Result<(), CallRefusal>
     requires { (numbers_in words.now).workers < 256 }
     ensures { answer_of result ≡ first_no (tick_asked words.now choices.now) }
 {
     if words[memory::DONE] == words[memory::TASKS] {
-        return CallAnswer::Finished;
+        return Err(CallRefusal::Finished);
     }
     if words[memory::OPEN] == 0 {
-        return CallAnswer::NoQuantum;
+        return Err(CallRefusal::NoQuantum);
     }
     let workers = words[memory::WORKERS];
     if choices.len() as u64 != workers {
-        return CallAnswer::WrongChoiceCount;
+        return Err(CallRefusal::WrongChoiceCount);
     }
-    if all_below(choices, workers as u8) {
-        return CallAnswer::Accepted;
+    if !all_below(choices, workers as u8) {
+        return Err(CallRefusal::BadChoice);
     }
-    CallAnswer::BadChoice
+    Ok(())
 }
 
 // Questions 11 and 15, of a seeded tick: its choices are drawn, so that 16 and 17 are always answered by yes.
-pub fn seeded_answer(words: &Words) -> CallAnswer
+pub fn seeded_answer(words: &Words) -> Result<(), CallRefusal>
     ensures { answer_of result ≡ first_no (seeded_asked words.now) }
 {
     let tasks = words[memory::TASKS];
     if words[memory::DONE] == tasks {
-        return CallAnswer::Finished;
+        return Err(CallRefusal::Finished);
     }
     let open = words[memory::OPEN];
     if open == 0 {
-        return CallAnswer::NoQuantum;
+        return Err(CallRefusal::NoQuantum);
     }
-    CallAnswer::Accepted
+    Ok(())
 }

@@ -1,7 +1,6 @@
 -- `call_questions::grant_answer` meets its contract: on each way out the tests that were made tell the first "no".
 -- The needs that are only searched for are places below 21 and numbers that fit.
 -- Assumes nothing.
-use mathlib.Core.Bool.{true, false}
 use native.Mathlib.Omega.{arith}
 use borrow.Author.Tests.{lt-ltb, le-ltb, le-leb, lt-leb, eq-eqb, ne_eqb}
 use Rattle.model.specs.Questions.{first_no}

@@ -2,7 +2,6 @@
 -- The needs that are only searched for are places below 21 and numbers that fit.
 -- Assumes nothing.
 use mathlib.Core.Path.{sym, ◌∙◌}
-use mathlib.Core.Bool.{true, false}
 use borrow.Author.Tests.{eq-eqb, ne_eqb}
 use Rattle.model.specs.Questions.{first_no}
 use Rattle.call_questions.specs.Asked.{tick_asked}
@@ -23,14 +22,14 @@ unfolding tick_asked first_no
 returns-then-choices-workers c =
     rw (ne_eqb _ _ c.if-words.false, ne_eqb _ 0 c.if-words-eq0.false, ne_eqb _ _ c.if-choices-workers.true)
 
-pub returns-then-all_below : goal.returns-then-all_below
+pub returns-then-not-all_below : goal.returns-then-not-all_below
 unfolding tick_asked first_no
-returns-then-all_below c =
+returns-then-not-all_below c =
     rw (
       ne_eqb _ _ c.if-words.false,
       ne_eqb _ 0 c.if-words-eq0.false,
       eq-eqb _ _ c.if-choices-workers.false,
-      sym c.all_below.ensures ∙ c.if-all_below.true,
+      sym c.all_below.ensures ∙ c.if-not-all_below.true,
     )
 
 pub returns : goal.returns
@@ -40,5 +39,5 @@ returns c =
       ne_eqb _ _ c.if-words.false,
       ne_eqb _ 0 c.if-words-eq0.false,
       eq-eqb _ _ c.if-choices-workers.false,
-      sym c.all_below.ensures ∙ c.if-all_below.false,
+      sym c.all_below.ensures ∙ c.if-not-all_below.false,
     )
