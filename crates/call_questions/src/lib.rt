@@ -46,6 +46,7 @@ impl Refusal for CallRefusal {
 }
 
 // Questions 11 to 13, 25 and 14, of a grant and of an offer.
+#[tactic(auto, using(crate::proofs::Questions::questions), unfolding(crate::specs::Asked::grant_asked))]
 pub fn grant_answer(words: &Words, g: u64) -> Result<(), CallRefusal>
     ensures { answer_of result ≡ first_no (grant_asked words.now g) }
 {
@@ -68,6 +69,7 @@ pub fn grant_answer(words: &Words, g: u64) -> Result<(), CallRefusal>
 }
 
 // Questions 24 and 14, of an opening. The note is the offered count and 1.
+#[tactic(auto, using(crate::proofs::Questions::questions), unfolding(crate::specs::Asked::open_asked))]
 pub fn open_answer(words: &Words, c: u64) -> Result<(), CallRefusal>
     ensures { answer_of result ≡ first_no (open_asked words.now c) }
 {
@@ -82,6 +84,7 @@ pub fn open_answer(words: &Words, c: u64) -> Result<(), CallRefusal>
 }
 
 // Question 24, of a withdrawal.
+#[tactic(auto, using(crate::proofs::Questions::questions), unfolding(crate::specs::Asked::withdraw_asked))]
 pub fn withdraw_answer(words: &Words) -> Result<(), CallRefusal>
     ensures { answer_of result ≡ first_no (withdraw_asked words.now) }
 {
@@ -92,6 +95,7 @@ pub fn withdraw_answer(words: &Words) -> Result<(), CallRefusal>
 }
 
 // Question 17, of every choice; with no way out of the loop but its end: it is compiled to ask many at once.
+#[tactic(auto, using(crate::proofs::Answers::choice_asked, crate::proofs::Answers::choices_passed))]
 fn all_below(choices: &[u8], workers: u8) -> bool
     ensures { result ≡ choices_below choices.now workers }
 {
@@ -103,6 +107,7 @@ fn all_below(choices: &[u8], workers: u8) -> bool
 }
 
 // Questions 11 and 15 to 17. As many choices as workers are at most 64, so that the number of workers fits a byte where 17 is asked.
+#[tactic(auto, using(crate::proofs::Questions::questions), unfolding(crate::specs::Asked::tick_asked))]
 pub fn tick_answer(words: &Words, choices: &[u8]) -> Result<(), CallRefusal>
     requires { (numbers_in words.now).workers < 256 }
     ensures { answer_of result ≡ first_no (tick_asked words.now choices.now) }
@@ -124,6 +129,7 @@ pub fn tick_answer(words: &Words, choices: &[u8]) -> Result<(), CallRefusal>
 }
 
 // Questions 11 and 15, of a seeded tick: its choices are drawn, so that 16 and 17 are always answered by yes.
+#[tactic(auto, using(crate::proofs::Questions::questions), unfolding(crate::specs::Asked::seeded_asked))]
 pub fn seeded_answer(words: &Words) -> Result<(), CallRefusal>
     ensures { answer_of result ≡ first_no (seeded_asked words.now) }
 {
