@@ -16,11 +16,8 @@ use Rattle.memory.specs.Graphs.{graph}
 use Rattle.memory.specs.Sound.{Sizes, Kept}
 use Rattle.memory.specs.Jobs.{lent, job_parts, job_numbers, job_plan, job_state}
 use Rattle.memory.proofs.Views.{durations_same}
-use Rattle.call_questions.specs.declared.CallAnswer.{CallAnswer}
-use Rattle.call_questions.specs.Answers.{answer_of}
 use Rattle.engine.specs.Reached.{Reached}
 use Rattle.engine.specs.Moves.{Moves}
-use Rattle.call_questions.proofs.Answers.{IsRefusal}
 
 -- what was accepted was not refused
 pub not_both : {a : Answer} (n : ℕ) → a ≡ accepted → a ≡ refused n → ⊥
@@ -60,11 +57,9 @@ one_call_more {plan} {calls} call r stepped same_plan sizes sized kept =
     }
 
 -- a refused call is a step that stays where it is
-pub refused_moves : {call : Call} {job : Job} (answer : CallAnswer) → answer_of answer ≡ call_answer call (job_state job) →
-    IsRefusal answer → Moves call job job
+pub refused_moves : {call : Call} {job : Job} (n : ℕ) → call_answer call (job_state job) ≡ refused n → Moves call job job
 unfolding step
-refused_moves {call} {job} answer answered refusal =
-    let is_no : call_answer call (job_state job) ≡ refused refusal.number = sym answered ∙ refusal.told in
+refused_moves {call} {job} n is_no =
     let stays : job_state job ≡ step (job_plan job) call (job_state job) = rw is_no refl in
     record {
       stepped = stays;

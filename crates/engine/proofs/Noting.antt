@@ -7,7 +7,7 @@ use Prim.Native.Nat.{ℕ, ◌+◌, ◌≤◌}
 use native.Mathlib.Numerals.{add-one}
 use native.Mathlib.Omega.{arith}
 use lib.ListN.{length, set, length-set}
-use Rattle.model.specs.Questions.{accepted}
+use Rattle.model.specs.Questions.{accepted, refused}
 use Rattle.model.specs.Plan.{Plan}
 use Rattle.model.specs.Machine.{State, offered, with_note, open_offer, Call, grants, offers, opens, withdraws, call_answer, step}
 use Rattle.model.specs.History.{run}
@@ -20,9 +20,6 @@ use Rattle.memory.specs.Graphs.{graph}
 use Rattle.memory.specs.Sound.{Kept}
 use Rattle.memory.specs.Jobs.{lent, job_parts, job_plan, job_state}
 use Rattle.memory.proofs.Words.{by_words}
-use Rattle.call_questions.specs.declared.CallAnswer.{CallAnswer}
-use Rattle.call_questions.specs.Answers.{answer_of}
-use Rattle.call_questions.proofs.Answers.{IsRefusal}
 use Rattle.engine.specs.Reached.{Reached, IsJob}
 use Rattle.engine.specs.Moves.{Moves, MovesWords, Grants}
 use Rattle.engine.proofs.Known.{plan_sound, words_fit}
@@ -130,8 +127,8 @@ module _ {plan : Plan} {calls : List Call} {memory words : List ℕ} (c : ℕ) (
 
 -- ---- a call of the words alone
 
-pub refused_words : {words : List ℕ} (call : Call) (answer : CallAnswer) →
-    ((memory : List ℕ) → IsJob (lent memory words) → answer_of answer ≡ call_answer call (job_state (lent memory words))) →
-    IsRefusal answer → MovesWords call words words (answer_of answer)
-refused_words call answer answered refusal =
-    record { answered = answered; moves = λ memory is_job. refused_moves answer (answered memory is_job) refusal }
+pub refused_words : {words : List ℕ} (call : Call) (n : ℕ) →
+    ((memory : List ℕ) → IsJob (lent memory words) → refused n ≡ call_answer call (job_state (lent memory words))) →
+    MovesWords call words words (refused n)
+refused_words call n answered =
+    record { answered = answered; moves = λ memory is_job. refused_moves n (sym (answered memory is_job)) }

@@ -11,7 +11,7 @@ ghost use Rattle.memory.specs.Jobs.{job, job_before, job_after, job_state};
 ghost use Rattle.engine.specs.Reached.{IsJob, JobWords};
 ghost use Rattle.engine.specs.Moves.{Accepts, Moves, MovesWords, Grants};
 
-use call_questions::CallAnswer;
+use call_questions::CallRefusal;
 use memory::{Memory, Words};
 use plan_fields::PlanAnswer;
 
@@ -67,79 +67,66 @@ fn give(memory: &mut Memory, words: &mut Words, g: u64)
 }
 
 // "A grant of g", any number of workers. Refused, it changes nothing.
-pub fn grant(memory: &mut Memory, words: &mut Words, g: u64) -> CallAnswer
+#[tactic(auto, using(crate::proofs::Answering::grant_answered))]
+pub fn grant(memory: &mut Memory, words: &mut Words, g: u64) -> Result<(), CallRefusal>
     requires { IsJob (job memory words) }
     ensures answered { answer_of result ≡ call_answer (grants g) (job_state (job_before memory words)) }
     ensures moves { Moves (grants g) (job_before memory words) (job_after memory words) }
 {
-    let answer = call_questions::grant_answer(words, g);
-    let CallAnswer::Accepted = answer else {
-        return answer;
-    };
+    call_questions::grant_answer(words, g)?; // refused, and nothing is written
     give(memory, words, g);
-    answer
+    Ok(())
 }
 
 // An offer of g, any number of workers: it is noted, one more than it so that 0 is none, and nothing else moves. It reads and writes the
 // words alone. Refused, it changes nothing.
-pub fn offer(words: &mut Words, g: u64) -> CallAnswer
+pub fn offer(words: &mut Words, g: u64) -> Result<(), CallRefusal>
     requires { JobWords words.old }
     ensures { MovesWords (offers g) words.old words.new (answer_of result) }
 {
-    let asked = call_questions::grant_answer(words, g);
-    let CallAnswer::Accepted = asked else {
-        return asked;
-    };
+    call_questions::grant_answer(words, g)?; // what a grant is asked
     words[memory::NOTE] = g + 1;
-    asked
+    Ok(())
 }
 
 // An opening of the noted offer for c workers: the note is dropped, and then it is a grant of c. It asks 24 and 14 alone: while an offer is
 // noted nothing but an opening or a withdrawal can move the job, so 11 to 13 are still answered by yes (`offer_then_open` of laws).
 // Refused, it changes nothing.
-pub fn open(memory: &mut Memory, words: &mut Words, c: u64) -> CallAnswer
+#[tactic(auto, using(crate::proofs::Answering::open_answered))]
+pub fn open(memory: &mut Memory, words: &mut Words, c: u64) -> Result<(), CallRefusal>
     requires { IsJob (job memory words) }
     ensures answered { answer_of result ≡ call_answer (opens c) (job_state (job_before memory words)) }
     ensures moves { Moves (opens c) (job_before memory words) (job_after memory words) }
 {
-    let answer = call_questions::open_answer(words, c);
-    let CallAnswer::Accepted = answer else {
-        return answer;
-    };
+    call_questions::open_answer(words, c)?;
     words[memory::NOTE] = 0; // dropped, and then a grant of c
     give(memory, words, c);
-    answer
+    Ok(())
 }
 
 // A withdrawal of the noted offer: the note is dropped, and nothing else moves. It reads and writes the words alone. Refused, it changes
 // nothing.
-pub fn withdraw(words: &mut Words) -> CallAnswer
+pub fn withdraw(words: &mut Words) -> Result<(), CallRefusal>
     requires { JobWords words.old }
     ensures { MovesWords withdraws words.old words.new (answer_of result) }
 {
-    let answer = call_questions::withdraw_answer(words);
-    let CallAnswer::Accepted = answer else {
-        return answer;
-    };
+    call_questions::withdraw_answer(words)?;
     words[memory::NOTE] = 0; // dropped, and nothing else
-    answer
+    Ok(())
 }
 
 // "A tick": the workers' cycles, then the end of the tick. Refused, it changes nothing.
-pub fn tick(memory: &mut Memory, words: &mut Words, choices: &[u8]) -> CallAnswer
+pub fn tick(memory: &mut Memory, words: &mut Words, choices: &[u8]) -> Result<(), CallRefusal>
     requires { IsJob (job memory words) }
     ensures answered { answer_of result ≡ call_answer (ticks choices.now) (job_state (job_before memory words)) }
     ensures moves { Moves (ticks choices.now) (job_before memory words) (job_after memory words) }
 {
-    let answer = call_questions::tick_answer(words, choices);
-    let CallAnswer::Accepted = answer else {
-        return answer;
-    };
+    call_questions::tick_answer(words, choices)?;
     if words[memory::WORKERS] == 0 {
         clock::end_tick(words);
-        return answer;
+        return Ok(());
     }
     turn::cycles(memory, words, choices);
     clock::end_tick(words);
-    answer
+    Ok(())
 }

@@ -1,70 +1,51 @@
 -- `engine::tick` meets its contract: a refused tick leaves the job, and an accepted one is the model's tick, with workers or without.
 -- Assumes nothing.
-use mathlib.Core.Path.{◌≡◌, refl, sym, ap, ◌∙◌}
+use mathlib.Core.Path.{refl, sym}
 use native.Mathlib.Omega.{arith}
-use Rattle.model.specs.Questions.{accepted, first_no}
-use Rattle.model.specs.Machine.{ticks, call_answer}
-use Rattle.memory.specs.Jobs.{lent, job_state}
+use Rattle.std.proofs.Common.{rules}
 use Rattle.memory.proofs.Words.{same_tail}
-use Rattle.call_questions.specs.Answers.{answer_of}
-use Rattle.call_questions.specs.Asked.{tick_asked}
-use Rattle.call_questions.proofs.Answers.{refusing}
-use Rattle.call_questions.proofs.Asking.{tick_asking}
+use Rattle.engine.proofs.Answering.{tick_answered}
 use Rattle.engine.proofs.Known.{words_fit}
 use Rattle.engine.proofs.Moving.{refused_moves}
 use Rattle.engine.proofs.Ticking.{tick_turn, countable, worked_tick, idle_tick}
 use Rattle.engine.proofs.tick.Goals as goal
 
-pub tick_answer-answer-requires : goal.tick_answer-answer-requires
-tick_answer-answer-requires c =
-    omega (arith, (words_fit c.requires.2).workers_fit)
+pub tick_answer-requires : goal.tick_answer-requires
+tick_answer-requires c = omega (arith, (words_fit c.requires.2).workers_fit)
 
-pub returns-in_default : goal.returns-in_default
-returns-in_default c =
-    let answered : answer_of c.tick_answer-answer.result
-    ≡ call_answer (ticks c.args.choices.now) (job_state (lent c.args.memory.now c.args.words.now)) = c.tick_answer-answer.ensures
-    ∙ sym (tick_asking (lent c.args.memory.now c.args.words.now) c.requires.2.kept.done_right c.args.choices.now) in
-    record { answered = answered; moves = refused_moves c.tick_answer-answer.result answered (refusing _ c.in_default.not-Accepted) }
+pub returns-in_err-tick_answer-clause-answered : goal.returns-in_err-tick_answer-clause-answered
+returns-in_err-tick_answer-clause-answered c =
+    let told = tick_answered c.requires.2 _ c.in_err-tick_answer.ensures in search rules
+
+pub returns-in_err-tick_answer-clause-moves : goal.returns-in_err-tick_answer-clause-moves
+returns-in_err-tick_answer-clause-moves c =
+    refused_moves _ (sym (tick_answered c.requires.2 _ c.in_err-tick_answer.ensures))
+
+-- ---- no worker is granted
 
 pub end_tick-requires : goal.end_tick-requires
-end_tick-requires c =
-    let asked : first_no (tick_asked (lent c.args.memory.now c.args.words.now).words c.args.choices.now) ≡ accepted =
-    sym c.tick_answer-answer.ensures ∙ ap answer_of c.in-Accepted.is in
-    countable _ c.requires.2 asked (same_tail _) (omega arith) refl
+end_tick-requires c = countable _ c.requires.2 (sym c.in_ok-tick_answer.ensures) (same_tail _) (omega arith) refl
 
 pub returns-then-words-eq0 : goal.returns-then-words-eq0
 returns-then-words-eq0 c =
-    let answered : answer_of c.tick_answer-answer.result
-    ≡ call_answer (ticks c.args.choices.now) (job_state (lent c.args.memory.now c.args.words.now)) = c.tick_answer-answer.ensures
-    ∙ sym (tick_asking (lent c.args.memory.now c.args.words.now) c.requires.2.kept.done_right c.args.choices.now) in
-    let asked : first_no (tick_asked (lent c.args.memory.now c.args.words.now).words c.args.choices.now) ≡ accepted =
-    sym c.tick_answer-answer.ensures ∙ ap answer_of c.in-Accepted.is in
-    let nobody = c.if-words-eq0.true in record {
-      answered = answered;
-      moves = idle_tick _ c.requires.2 asked (omega (
-        arith,
-        nobody,
-      )) c.end_tick.ensures;
+    record {
+      answered = tick_answered c.requires.2 _ c.in_ok-tick_answer.ensures;
+      moves = idle_tick _ c.requires.2 (sym c.in_ok-tick_answer.ensures) (omega (arith, c.if-words-eq0.true)) c.end_tick.ensures;
     }
 
+-- ---- some are
+
 pub cycles-requires : goal.cycles-requires
-cycles-requires c =
-    let asked : first_no (tick_asked (lent c.args.memory.now c.args.words.now).words c.args.choices.now) ≡ accepted =
-    sym c.tick_answer-answer.ensures ∙ ap answer_of c.in-Accepted.is in
-    tick_turn _ c.requires.2 asked (omega (arith, c.if-words-eq0.false))
+cycles-requires c = tick_turn _ c.requires.2 (sym c.in_ok-tick_answer.ensures) (omega (arith, c.if-words-eq0.false))
 
 pub end_tick-requires-2 : goal.end_tick-requires-2
 end_tick-requires-2 c =
-    let asked : first_no (tick_asked (lent c.args.memory.now c.args.words.now).words c.args.choices.now) ≡ accepted =
-    sym c.tick_answer-answer.ensures ∙ ap answer_of c.in-Accepted.is in
     let done = c.cycles.ensures in
-    countable _ c.requires.2 asked done.tail done.grown.usage_grew done.grown.same_workers
+    countable _ c.requires.2 (sym c.in_ok-tick_answer.ensures) done.tail done.grown.usage_grew done.grown.same_workers
 
 pub returns : goal.returns
 returns c =
-    let answered : answer_of c.tick_answer-answer.result
-    ≡ call_answer (ticks c.args.choices.now) (job_state (lent c.args.memory.now c.args.words.now)) = c.tick_answer-answer.ensures
-    ∙ sym (tick_asking (lent c.args.memory.now c.args.words.now) c.requires.2.kept.done_right c.args.choices.now) in
-    let asked : first_no (tick_asked (lent c.args.memory.now c.args.words.now).words c.args.choices.now) ≡ accepted =
-    sym c.tick_answer-answer.ensures ∙ ap answer_of c.in-Accepted.is in
-    record { answered = answered; moves = worked_tick _ c.requires.2 asked c.cycles.ensures c.end_tick-2.ensures }
+    record {
+      answered = tick_answered c.requires.2 _ c.in_ok-tick_answer.ensures;
+      moves = worked_tick _ c.requires.2 (sym c.in_ok-tick_answer.ensures) c.cycles.ensures c.end_tick-2.ensures;
+    }
