@@ -122,7 +122,8 @@ pub fn tick(memory: &mut Memory, words: &mut Words, choices: &[u8]) -> Result<()
     ensures moves { Moves (ticks choices.now) (job_before memory words) (job_after memory words) }
 {
     call_questions::tick_answer(words, choices)?;
-    if words[memory::WORKERS] == 0 {
+    let nobody = words[memory::WORKERS] == 0;
+    if nobody {
         clock::end_tick(words);
         return Ok(());
     }

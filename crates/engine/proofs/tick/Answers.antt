@@ -26,17 +26,17 @@ returns-in_err-tick_answer-clause-moves c =
 pub end_tick-requires : goal.end_tick-requires
 end_tick-requires c = countable _ c.requires.2 (sym c.in_ok-tick_answer.ensures) (same_tail _) (omega arith) refl
 
-pub returns-then-words-eq0 : goal.returns-then-words-eq0
-returns-then-words-eq0 c =
+pub returns-then-nobody : goal.returns-then-nobody
+returns-then-nobody c =
     record {
       answered = tick_answered c.requires.2 _ c.in_ok-tick_answer.ensures;
-      moves = idle_tick _ c.requires.2 (sym c.in_ok-tick_answer.ensures) (omega (arith, c.if-words-eq0.true)) c.end_tick.ensures;
+      moves = idle_tick _ c.requires.2 (sym c.in_ok-tick_answer.ensures) (omega (arith, c.if-nobody.true)) c.end_tick.ensures;
     }
 
 -- ---- some are
 
 pub cycles-requires : goal.cycles-requires
-cycles-requires c = tick_turn _ c.requires.2 (sym c.in_ok-tick_answer.ensures) (omega (arith, c.if-words-eq0.false))
+cycles-requires c = tick_turn _ c.requires.2 (sym c.in_ok-tick_answer.ensures) (omega (arith, c.if-nobody.false))
 
 pub end_tick-requires-2 : goal.end_tick-requires-2
 end_tick-requires-2 c =
