@@ -4,7 +4,7 @@
 use mathlib.Core.Path.{◌≡◌, refl, sym, ap, ◌∙◌}
 use mathlib.Core.List.{List}
 use Prim.Native.Nat.{ℕ}
-use Rattle.model.specs.Questions.{accepted, refused, first_no}
+use Rattle.model.specs.Questions.{Answer, accepted, refused, first_no}
 use Rattle.model.specs.Plan.{Plan}
 use Rattle.model.specs.Machine.{allotment, Call, ticks, call_answer}
 use Rattle.model.specs.Seeds.{draws, seed_after, Seeded, drawn, seeded_answer}
@@ -13,10 +13,7 @@ use Rattle.memory.specs.declared.Job.{Job}
 use Rattle.memory.specs.Words.{numbers_in}
 use Rattle.memory.specs.Jobs.{job_parts, job_numbers, job_plan, job_state}
 use Rattle.memory.proofs.Views.{workers_shown}
-use Rattle.call_questions.specs.declared.CallAnswer.{CallAnswer}
-use Rattle.call_questions.specs.Answers.{answer_of}
 use Rattle.call_questions.specs.Asked.{tick_asked, seeded_asked}
-use Rattle.call_questions.proofs.Answers.{IsRefusal}
 use Rattle.call_questions.proofs.Asking.{tick_asking, seeded_asking}
 use Rattle.engine.specs.Reached.{Reached}
 use Rattle.engine.specs.Moves.{Moves}
@@ -63,12 +60,15 @@ module _ {plan : Plan} {calls : List Call} {job : Job} (seed : ℕ) (r : Reached
         unchanged = λ n is_no. absurd (not_both n answer is_no);
       }
 
-  pub seeded_stays : (answer : CallAnswer) → answer_of answer ≡ seeded_answer (job_state job) → IsRefusal answer →
-      TicksSeeded job seed job seed
-  seeded_stays answer answered refusal =
-      let is_no : seeded_answer (job_state job) ≡ refused refusal.number = sym answered ∙ refusal.told in
+  -- what is asked of the words is the model's answer
+  pub seeded_answered : {answer : Answer} → answer ≡ first_no (seeded_asked job.words) → answer ≡ seeded_answer (job_state job)
+  seeded_answered asked = asked ∙ sym (seeded_asking job r.kept.done_right)
+
+  pub seeded_stays : (n : ℕ) → refused n ≡ first_no (seeded_asked job.words) → TicksSeeded job seed job seed
+  seeded_stays n asked =
+      let is_no : seeded_answer (job_state job) ≡ refused n = sym (seeded_answered asked) in
       record {
-        leaves = sym ((seeded_is_plain (job_plan job) (shown job seed)).stays refusal.number is_no);
-        moves = refused_moves answer (answered ∙ same_answer (job_state job) seed) refusal;
+        leaves = sym ((seeded_is_plain (job_plan job) (shown job seed)).stays n is_no);
+        moves = refused_moves n (sym (same_answer (job_state job) seed) ∙ is_no);
         unchanged = λ n h. (refl, refl);
       }

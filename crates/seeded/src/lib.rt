@@ -9,7 +9,7 @@ ghost use Rattle.memory.specs.Jobs.{job, job_before, job_after, job_state};
 ghost use Rattle.engine.specs.Reached.{IsJob};
 ghost use Rattle.seeded.specs.Drawn.{SeededTurn, SeededCycles, TicksSeeded};
 
-use call_questions::CallAnswer;
+use call_questions::CallRefusal;
 use memory::{Memory, Words};
 
 // The cycles of a seeded tick: the workers in number order, one cycle each, and before each of them one draw, whatever its cycle is. The
@@ -40,20 +40,20 @@ pub fn cycles(memory: &mut Memory, words: &mut Words, seed: u32) -> u32
 
 // A seeded tick: the plain tick with the choices that the seed draws for the granted workers, and the seed is then the state after so many
 // draws. It is never refused by 16 or 17. Refused, it changes neither the job nor the seed.
-pub fn tick(memory: &mut Memory, words: &mut Words, seed: &mut u32) -> CallAnswer
+// It stays beside `engine::tick`: one function for both would take the questions and the cycles as closures, each with a contract of its
+// own, for a body of six lines.
+pub fn tick(memory: &mut Memory, words: &mut Words, seed: &mut u32) -> Result<(), CallRefusal>
     requires { IsJob (job memory words) }
     ensures answered { answer_of result ≡ seeded_answer (job_state (job_before memory words)) }
     ensures ticks { TicksSeeded (job_before memory words) seed.old (job_after memory words) seed.new }
 {
-    let answer = call_questions::seeded_answer(words);
-    let CallAnswer::Accepted = answer else {
-        return answer;
-    };
-    if words[memory::WORKERS] == 0 {
+    call_questions::seeded_answer(words)?;
+    let nobody = words[memory::WORKERS] == 0;
+    if nobody {
         clock::end_tick(words);
-        return answer;
+        return Ok(());
     }
     *seed = cycles(memory, words, *seed);
     clock::end_tick(words);
-    answer
+    Ok(())
 }

@@ -1,97 +1,68 @@
 -- `seeded::tick` meets its contract: a refused tick leaves the job and the seed, and an accepted one is the plain tick with the drawn
 -- choices, with workers or without.
 -- Assumes nothing.
-use mathlib.Core.Path.{◌≡◌, refl, sym, ap, ◌∙◌}
+use mathlib.Core.Path.{◌≡◌, refl, sym, ap}
 use Prim.Native.Nat.{ℕ, ◌≤◌}
 use native.Mathlib.Omega.{arith}
-use Rattle.model.specs.Questions.{accepted, first_no}
-use Rattle.model.specs.Seeds.{seed_after, seeded_answer}
+use Rattle.std.proofs.Common.{rules}
+use Rattle.model.specs.Seeds.{seed_after}
 use Rattle.memory.specs.Words.{numbers_in}
-use Rattle.memory.specs.Jobs.{lent, job_state}
 use Rattle.memory.proofs.Words.{same_tail}
-use Rattle.call_questions.specs.Answers.{answer_of}
-use Rattle.call_questions.specs.Asked.{tick_asked, seeded_asked}
-use Rattle.call_questions.proofs.Answers.{refusing}
-use Rattle.call_questions.proofs.Asking.{seeded_asking}
 use Rattle.engine.proofs.Ticking.{tick_turn, countable, worked_tick, idle_tick}
-use Rattle.seeded.specs.Drawn.{choices_for}
-use Rattle.seeded.proofs.Seeding.{asked_plainly, seeded_moves, seeded_stays}
+use Rattle.seeded.proofs.Seeding.{asked_plainly, seeded_answered, seeded_moves, seeded_stays}
 use Rattle.seeded.proofs.tick.Goals as goal
 
-pub returns-in_default : goal.returns-in_default
-returns-in_default c =
-    let answered : answer_of c.seeded_answer-answer.result ≡ seeded_answer (job_state (lent c.args.memory.now c.args.words.now)) =
-    c.seeded_answer-answer.ensures ∙ sym (seeded_asking (lent c.args.memory.now c.args.words.now) c.requires.2.kept.done_right) in
-    record {
-      answered = answered;
-      ticks =
-          seeded_stays _ c.requires.2 c.seeded_answer-answer.result answered (refusing _ c.in_default.not-Accepted);
-    }
+pub returns-in_err-seeded_answer-clause-answered : goal.returns-in_err-seeded_answer-clause-answered
+returns-in_err-seeded_answer-clause-answered c =
+    let told = seeded_answered c.args.seed.now c.requires.2 c.in_err-seeded_answer.ensures in search rules
+
+pub returns-in_err-seeded_answer-clause-ticks : goal.returns-in_err-seeded_answer-clause-ticks
+returns-in_err-seeded_answer-clause-ticks c = seeded_stays _ c.requires.2 _ c.in_err-seeded_answer.ensures
+
+-- ---- no worker is granted
 
 pub end_tick-requires : goal.end_tick-requires
 end_tick-requires c =
-    let asked : first_no (seeded_asked (lent c.args.memory.now c.args.words.now).words) ≡ accepted = sym c.seeded_answer-answer.ensures
-    ∙ ap answer_of c.in-Accepted.is in
-    let plainly : first_no (tick_asked (lent c.args.memory.now c.args.words.now).words (choices_for (lent c.args.memory.now
-    c.args.words.now).words c.args.seed.now)) ≡ accepted = asked_plainly _ c.requires.2 asked in
-    countable (choices_for (lent c.args.memory.now c.args.words.now).words c.args.seed.now) c.requires.2 plainly (same_tail _) (omega
-    arith) refl
+    let plainly = asked_plainly c.args.seed.now c.requires.2 (sym c.in_ok-seeded_answer.ensures) in
+    countable _ c.requires.2 plainly (same_tail _) (omega arith) refl
 
-pub returns-then-words-eq0 : goal.returns-then-words-eq0
+pub returns-then-nobody : goal.returns-then-nobody
 unfolding seed_after
-returns-then-words-eq0 c =
-    let answered : answer_of c.seeded_answer-answer.result ≡ seeded_answer (job_state (lent c.args.memory.now c.args.words.now)) =
-    c.seeded_answer-answer.ensures ∙ sym (seeded_asking (lent c.args.memory.now c.args.words.now) c.requires.2.kept.done_right) in
-    let asked : first_no (seeded_asked (lent c.args.memory.now c.args.words.now).words) ≡ accepted = sym c.seeded_answer-answer.ensures
-    ∙ ap answer_of c.in-Accepted.is in
-    let plainly : first_no (tick_asked (lent c.args.memory.now c.args.words.now).words (choices_for (lent c.args.memory.now
-    c.args.words.now).words c.args.seed.now)) ≡ accepted = asked_plainly _ c.requires.2 asked in
-    let r = c.requires.2 in
+returns-then-nobody c =
+    let asked = sym c.in_ok-seeded_answer.ensures in
     let seed = c.args.seed.now in
-    let nobody : (numbers_in (lent c.args.memory.now c.args.words.now).words).workers ≡ 0 = omega (arith, c.if-words-eq0.true) in
+    let nobody : (numbers_in c.args.words.now).workers ≡ 0 = omega (arith, c.if-nobody.true) in
     record {
-      answered = answered;
+      answered = seeded_answered seed c.requires.2 c.in_ok-seeded_answer.ensures;
       ticks =
-          seeded_moves seed r asked (idle_tick (choices_for
-          (lent c.args.memory.now c.args.words.now).words c.args.seed.now) r plainly nobody
-          c.end_tick.ensures) (ap (λ (n : ℕ). seed_after n seed) (sym nobody));
+          seeded_moves seed c.requires.2 asked
+          (idle_tick _ c.requires.2 (asked_plainly seed c.requires.2 asked) nobody c.end_tick.ensures)
+          (ap (λ (n : ℕ). seed_after n seed) (sym nobody));
     }
+
+-- ---- some are
 
 pub cycles-requires : goal.cycles-requires
 cycles-requires c =
-    let asked : first_no (seeded_asked (lent c.args.memory.now c.args.words.now).words) ≡ accepted = sym c.seeded_answer-answer.ensures
-    ∙ ap answer_of c.in-Accepted.is in
-    let plainly : first_no (tick_asked (lent c.args.memory.now c.args.words.now).words (choices_for (lent c.args.memory.now
-    c.args.words.now).words c.args.seed.now)) ≡ accepted = asked_plainly _ c.requires.2 asked in
-    let some : 1 ≤ (numbers_in (lent c.args.memory.now c.args.words.now).words).workers = omega (arith, c.if-words-eq0.false) in
-    record {
-      some_worker = some;
-      turn = tick_turn (choices_for (lent c.args.memory.now c.args.words.now).words c.args.seed.now) c.requires.2 plainly some;
-    }
+    let some : 1 ≤ (numbers_in c.args.words.now).workers = omega (arith, c.if-nobody.false) in
+    let plainly = asked_plainly c.args.seed.now c.requires.2 (sym c.in_ok-seeded_answer.ensures) in
+    record { some_worker = some; turn = tick_turn _ c.requires.2 plainly some }
 
 pub end_tick-requires-2 : goal.end_tick-requires-2
 end_tick-requires-2 c =
-    let asked : first_no (seeded_asked (lent c.args.memory.now c.args.words.now).words) ≡ accepted = sym c.seeded_answer-answer.ensures
-    ∙ ap answer_of c.in-Accepted.is in
-    let plainly : first_no (tick_asked (lent c.args.memory.now c.args.words.now).words (choices_for (lent c.args.memory.now
-    c.args.words.now).words c.args.seed.now)) ≡ accepted = asked_plainly _ c.requires.2 asked in
+    let plainly = asked_plainly c.args.seed.now c.requires.2 (sym c.in_ok-seeded_answer.ensures) in
     let done = c.cycles.ensures.ticked in
-    countable (choices_for (lent c.args.memory.now c.args.words.now).words c.args.seed.now) c.requires.2 plainly done.tail
-    done.grown.usage_grew
-    done.grown.same_workers
+    countable _ c.requires.2 plainly done.tail done.grown.usage_grew done.grown.same_workers
 
 pub returns : goal.returns
 returns c =
-    let answered : answer_of c.seeded_answer-answer.result ≡ seeded_answer (job_state (lent c.args.memory.now c.args.words.now)) =
-    c.seeded_answer-answer.ensures ∙ sym (seeded_asking (lent c.args.memory.now c.args.words.now) c.requires.2.kept.done_right) in
-    let asked : first_no (seeded_asked (lent c.args.memory.now c.args.words.now).words) ≡ accepted = sym c.seeded_answer-answer.ensures
-    ∙ ap answer_of c.in-Accepted.is in
-    let plainly : first_no (tick_asked (lent c.args.memory.now c.args.words.now).words (choices_for (lent c.args.memory.now
-    c.args.words.now).words c.args.seed.now)) ≡ accepted = asked_plainly _ c.requires.2 asked in
-    let r = c.requires.2 in
-    let done = c.cycles.ensures in record {
-      answered = answered;
+    let asked = sym c.in_ok-seeded_answer.ensures in
+    let seed = c.args.seed.now in
+    let done = c.cycles.ensures in
+    record {
+      answered = seeded_answered seed c.requires.2 c.in_ok-seeded_answer.ensures;
       ticks =
-          seeded_moves c.args.seed.now r asked (worked_tick (choices_for (lent c.args.memory.now c.args.words.now).words c.args.seed.now) r
-          plainly done.ticked c.end_tick-2.ensures) done.drawn_on;
+          seeded_moves seed c.requires.2 asked
+          (worked_tick _ c.requires.2 (asked_plainly seed c.requires.2 asked) done.ticked c.end_tick-2.ensures)
+          done.drawn_on;
     }
