@@ -8,7 +8,7 @@ ghost use Rattle.call_questions.specs.Answers.{answer_of};
 ghost use Rattle.engine.specs.Reached.{IsJob};
 ghost use Rattle.day_log.specs.Running.{log_answer_of, Runs};
 
-use call_questions::CallAnswer;
+use call_questions::CallRefusal;
 use log_reader::Entry;
 use memory::{Memory, Words};
 
@@ -20,20 +20,12 @@ pub enum LogAnswer {
 }
 
 // 1 for a refused call, 0 for an accepted one.
-fn refused(answer: CallAnswer) -> u64
+fn refused(answer: Result<(), CallRefusal>) -> u64
     ensures { result ≡ refusals_in (answer_of answer) }
 {
     match answer {
-        CallAnswer::Accepted => 0,
-        CallAnswer::Finished => 1,
-        CallAnswer::QuantumOpen => 1,
-        CallAnswer::QuantaSpent => 1,
-        CallAnswer::TooManyWorkers => 1,
-        CallAnswer::NoQuantum => 1,
-        CallAnswer::WrongChoiceCount => 1,
-        CallAnswer::BadChoice => 1,
-        CallAnswer::NoOffer => 1,
-        CallAnswer::OfferNoted => 1,
+        Ok(()) => 0,
+        Err(_) => 1,
     }
 }
 
