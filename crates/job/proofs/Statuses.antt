@@ -1,4 +1,4 @@
--- The status that words show: case by case as the code asks; of a job the state's, whatever memory makes the words one; of the blank 0.
+-- The status that words show: of a job the state's, whatever memory makes the words one; of the blank 0.
 -- Assumes nothing.
 use mathlib.Core.Path.{◌≡◌, refl, sym, ◌∙◌}
 use mathlib.Core.List.{List}
@@ -17,30 +17,9 @@ use Rattle.job.specs.Blank.{blank_job}
 use Rattle.job.proofs.Blanks.{has_task}
 
 module _ (words : List ℕ) where
-  -- ---- the cases, as the code asks them
-
-  pub none_shown : word words 0 ≡ 0 → 0 ≡ shown_status words
+  none_shown : word words 0 ≡ 0 → 0 ≡ shown_status words
   unfolding shown_status
   none_shown none = rw (eq-eqb _ _ none)
-
-  module _ (some_task : word words 0 ≡ 0 → ⊥) where
-    pub finished_case : word words 2 ≡ word words 0 → 3 ≡ shown_status words
-    unfolding shown_status
-    finished_case all = rw (ne_eqb _ _ some_task, eq-eqb _ _ all)
-
-    module _ (unfinished : word words 2 ≡ word words 0 → ⊥) where
-      pub fresh_case : word words 14 ≡ 0 → 0 ≡ shown_status words
-      unfolding shown_status
-      fresh_case unstarted = rw (ne_eqb _ _ some_task, ne_eqb _ _ unfinished, eq-eqb _ _ unstarted)
-
-      module _ (started : word words 14 ≡ 0 → ⊥) where
-        pub held_case : word words 1 ≡ 0 → 2 ≡ shown_status words
-        unfolding shown_status
-        held_case none = rw (ne_eqb _ _ some_task, ne_eqb _ _ unfinished, ne_eqb _ _ started, eq-eqb _ _ none)
-
-        pub running_case : (word words 1 ≡ 0 → ⊥) → 1 ≡ shown_status words
-        unfolding shown_status
-        running_case some = rw (ne_eqb _ _ some_task, ne_eqb _ _ unfinished, ne_eqb _ _ started, ne_eqb _ _ some)
 
   -- ---- of a job, it is the state's
 

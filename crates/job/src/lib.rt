@@ -1,7 +1,7 @@
 #![tactic(auto)]
 
-// The job record, by value. It carries its plan: a call takes a count or choices and nothing else. A thin layer over the in-place
-// core `engine`.
+// The job record. It carries its plan: a call takes a count or choices and nothing else, and moves the record that it is lent. A thin layer
+// over the in-place core `engine`.
 ghost use Rattle.std.specs.Prelude.{◌≡◌};
 ghost use Rattle.model.specs.Plan.{plan_answer};
 ghost use Rattle.model.specs.Machine.{grants, ticks, offers, opens, withdraws, call_answer, status};
@@ -14,7 +14,7 @@ ghost use Rattle.status.specs.Number.{status_number};
 ghost use Rattle.job.specs.Blank.{blank_job};
 ghost use Rattle.job.specs.Status.{shown_status, StatusOf};
 
-use call_questions::CallAnswer;
+use call_questions::CallRefusal;
 use memory::{Job, Words};
 use plan_fields::PlanAnswer;
 use status::Status;
@@ -23,13 +23,6 @@ use status::Status;
 #[derive(Clone, Copy)]
 pub struct Acceptance {
     pub answer: PlanAnswer,
-    pub job: Job,
-}
-
-// The answer, and the record after the call.
-#[derive(Clone, Copy)]
-pub struct Called {
-    pub answer: CallAnswer,
     pub job: Job,
 }
 
@@ -47,83 +40,54 @@ pub fn accept(bytes: &[u8]) -> Acceptance
     }
 }
 
-// A grant of g workers, any number. Refused, the record comes back unchanged.
-pub fn grant(job: Job, g: u64) -> Called
-    requires { IsJob job }
-    ensures answered { answer_of result.answer ≡ call_answer (grants g) (job_state job) }
-    ensures moves { Moves (grants g) job result.job }
+// A grant of g workers, any number. Refused, the record stays as it was.
+pub fn grant(job: &mut Job, g: u64) -> Result<(), CallRefusal>
+    requires { IsJob job.old }
+    ensures answered { answer_of result ≡ call_answer (grants g) (job_state job.old) }
+    ensures moves { Moves (grants g) job.old job.new }
 {
-    let mut memory = job.memory;
-    let mut words = job.words;
-    let answer = engine::grant(&mut memory, &mut words, g);
-    Called {
-        answer,
-        job: Job { memory, words },
-    }
+    engine::grant(&mut job.memory, &mut job.words, g)
 }
 
-// An offer of g workers, any number, which is only noted. Refused, the record comes back unchanged.
-pub fn offer(job: Job, g: u64) -> Called
-    requires { IsJob job }
-    ensures answered { answer_of result.answer ≡ call_answer (offers g) (job_state job) }
-    ensures moves { Moves (offers g) job result.job }
+// An offer of g workers, any number, which is only noted. Refused, the record stays as it was.
+pub fn offer(job: &mut Job, g: u64) -> Result<(), CallRefusal>
+    requires { IsJob job.old }
+    ensures answered { answer_of result ≡ call_answer (offers g) (job_state job.old) }
+    ensures moves { Moves (offers g) job.old job.new }
 {
-    let memory = job.memory;
-    let mut words = job.words;
-    let answer = engine::offer(&mut words, g);
-    Called {
-        answer,
-        job: Job { memory, words },
-    }
+    engine::offer(&mut job.words, g)
 }
 
 // An opening of the noted offer for c workers: a grant of c, and the note is dropped. While an offer is noted nothing but an opening or a
-// withdrawal can move the job, so it asks 24 and 14 alone. Refused, the record comes back unchanged, the note too.
-pub fn open(job: Job, c: u64) -> Called
-    requires { IsJob job }
-    ensures answered { answer_of result.answer ≡ call_answer (opens c) (job_state job) }
-    ensures moves { Moves (opens c) job result.job }
+// withdrawal can move the job, so it asks 24 and 14 alone. Refused, the record stays as it was, the note too.
+pub fn open(job: &mut Job, c: u64) -> Result<(), CallRefusal>
+    requires { IsJob job.old }
+    ensures answered { answer_of result ≡ call_answer (opens c) (job_state job.old) }
+    ensures moves { Moves (opens c) job.old job.new }
 {
-    let mut memory = job.memory;
-    let mut words = job.words;
-    let answer = engine::open(&mut memory, &mut words, c);
-    Called {
-        answer,
-        job: Job { memory, words },
-    }
+    engine::open(&mut job.memory, &mut job.words, c)
 }
 
-// A withdrawal of the noted offer: the note is dropped, and nothing else. Refused, the record comes back unchanged.
-pub fn withdraw(job: Job) -> Called
-    requires { IsJob job }
-    ensures answered { answer_of result.answer ≡ call_answer withdraws (job_state job) }
-    ensures moves { Moves withdraws job result.job }
+// A withdrawal of the noted offer: the note is dropped, and nothing else. Refused, the record stays as it was.
+pub fn withdraw(job: &mut Job) -> Result<(), CallRefusal>
+    requires { IsJob job.old }
+    ensures answered { answer_of result ≡ call_answer withdraws (job_state job.old) }
+    ensures moves { Moves withdraws job.old job.new }
 {
-    let memory = job.memory;
-    let mut words = job.words;
-    let answer = engine::withdraw(&mut words);
-    Called {
-        answer,
-        job: Job { memory, words },
-    }
+    engine::withdraw(&mut job.words)
 }
 
-// A tick with a choice for each granted worker. Refused, the record comes back unchanged.
-pub fn tick(job: Job, choices: &[u8]) -> Called
-    requires { IsJob job }
-    ensures answered { answer_of result.answer ≡ call_answer (ticks choices.now) (job_state job) }
-    ensures moves { Moves (ticks choices.now) job result.job }
+// A tick with a choice for each granted worker. Refused, the record stays as it was.
+pub fn tick(job: &mut Job, choices: &[u8]) -> Result<(), CallRefusal>
+    requires { IsJob job.old }
+    ensures answered { answer_of result ≡ call_answer (ticks choices.now) (job_state job.old) }
+    ensures moves { Moves (ticks choices.now) job.old job.new }
 {
-    let mut memory = job.memory;
-    let mut words = job.words;
-    let answer = engine::tick(&mut memory, &mut words, choices);
-    Called {
-        answer,
-        job: Job { memory, words },
-    }
+    engine::tick(&mut job.memory, &mut job.words, choices)
 }
 
 // The status that words show, whatever they are. Words without a task are no job's: they show as fresh and never as finished.
+#[tactic(auto, using(std::proofs::lemmas::Bool::Decides::nat_tests), unfolding(crate::specs::Status::shown_status))]
 fn shown_status(words: &Words) -> Status
     ensures { status_number result ≡ shown_status words.now }
 {
@@ -151,10 +115,9 @@ pub fn status_of(words: &Words) -> Status
 }
 
 // The status of a record.
-pub fn job_status(job: Job) -> Status
-    requires { IsJob job }
-    ensures { status_number result ≡ status (job_state job) }
+pub fn job_status(job: &Job) -> Status
+    requires { IsJob job.now }
+    ensures { status_number result ≡ status (job_state job.now) }
 {
-    let words = job.words;
-    status_of(&words)
+    status_of(&job.words)
 }

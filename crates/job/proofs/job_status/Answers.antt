@@ -1,12 +1,6 @@
 -- `job::job_status` meets its contract: the status of the words, at the record's own memory.
 -- Assumes nothing.
-
 use Rattle.job.proofs.job_status.Goals as goal
 
-pub status_of-requires : goal.status_of-requires
-status_of-requires c =
-    (_, c.requires)
-
 pub returns : goal.returns
-returns c =
-    c.status_of.ensures.right _ c.requires
+returns c = c.status_of.ensures.right _ c.requires
