@@ -12,10 +12,11 @@ pub fn wrapping_mul_u32(a: u32, b: u32) -> u32
 }
 
 // The next state.
+#[tactic(auto, unfolding(model::specs::Seeds::next_seed))]
 pub fn next(s: u32) -> u32
     ensures { result ≡ next_seed s }
 {
-    std::num::wrapping_add_u32(wrapping_mul_u32(1664525, s), 1013904223)
+    wrapping_mul_u32(1664525, s).wrapping_add(1013904223)
 }
 
 // The choice that a state gives among so many workers: its upper half, modulo their number. A draw is the next state, and its choice.

@@ -1,2 +1,0 @@
--- Product: how wide a product is.
-pub mod Product
