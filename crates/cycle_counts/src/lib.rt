@@ -10,16 +10,10 @@ ghost use Rattle.memory.specs.Words.{word, with_more, works_word, mugs_word, ste
 use memory::Words;
 
 // Work ticks.
-#[derive(Clone, Copy)]
+#[derive(Clone, Copy, Default)]
 pub struct WorkCycles(u64);
 
 impl WorkCycles {
-    pub fn none() -> WorkCycles
-        ensures { result ≡ record { 0 = 0 } }
-    {
-        WorkCycles(0)
-    }
-
     pub fn one_more(self) -> WorkCycles
         requires { self.0 + 1 < 2 ^ 64 }
         ensures { result ≡ record { 0 = self.0 + 1 } }
@@ -44,16 +38,10 @@ impl WorkCycles {
 }
 
 // Mug ticks.
-#[derive(Clone, Copy)]
+#[derive(Clone, Copy, Default)]
 pub struct MugCycles(u64);
 
 impl MugCycles {
-    pub fn none() -> MugCycles
-        ensures { result ≡ record { 0 = 0 } }
-    {
-        MugCycles(0)
-    }
-
     pub fn one_more(self) -> MugCycles
         requires { self.0 + 1 < 2 ^ 64 }
         ensures { result ≡ record { 0 = self.0 + 1 } }

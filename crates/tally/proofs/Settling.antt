@@ -12,7 +12,7 @@ use Rattle.tally.specs.declared.Tally.{Tally}
 use Rattle.tally.specs.Tallies.{Addable, Settled}
 
 -- the ring's head is not the number of those that wait
-pub head_aside : (words : List ℕ) (head : ℕ) → word (set words 8 head) 9 ≡ word words 9
+head_aside : (words : List ℕ) (head : ℕ) → word (set words 8 head) 9 ≡ word words 9
 head_aside words head = get_or-set_other words 8 9 head 0 (λ e. omega arith)
 
 abbrev add_at : List ℕ → ℕ → ℕ → List ℕ
@@ -75,50 +75,46 @@ module _ (all : ℕ) (t : Tally) {words : List ℕ} (a : Addable words all t) wh
     pub works_fit : word usage_stored 3 + t.works.0 < 2 ^ 64
     works_fit = rw (usage, reads.works) (omega (arith, a.room.works_fit))
 
-    pub works_added : {l : List ℕ} → l ≡ add_at usage_stored 3 t.works.0 → l ≡ with_works t words
-    works_added stored = rw (stored, usage)
+    -- the words with the work cycles, and the number of the other cycles
+    module _ {l : List ℕ} (works : l ≡ add_at usage_stored 3 t.works.0) {others : StealCycles}
+        (rest : others ≡ record { 0 = all - (t.works.0 + t.mugs.0) }) where
+      pub steals_fit : word l 5 + others.0 < 2 ^ 64
+      steals_fit = rw (rest, works, usage, reads.steals) (omega (arith, a.room.steals_fit))
 
-  module _ {l : List ℕ} (so_far : l ≡ with_works t words) {others : StealCycles}
-      (rest : others ≡ record { 0 = all - (t.works.0 + t.mugs.0) }) where
-    pub steals_fit : word l 5 + others.0 < 2 ^ 64
-    steals_fit = rw (rest, so_far, reads.steals) (omega (arith, a.room.steals_fit))
+      -- the words with the steal cycles too, and the number of mug cycles
+      module _ {l' : List ℕ} (steals : l' ≡ add_at l 5 others.0) {n : ℕ} (number : n ≡ t.mugs.0) where
+        so_far : l' ≡ with_steals all t words
+        so_far = rw (steals, rest, works, usage)
 
-    pub steals_added : {l' : List ℕ} → l' ≡ add_at l 5 others.0 → l' ≡ with_steals all t words
-    steals_added stored = rw (stored, rest, so_far)
+        -- where nobody mugged, nothing of the ring is written
+        pub settled_unmugged : n ≡ 0 → Settled words all t l'
+        settled_unmugged none =
+            rw so_far
+            (by_words
+            (λ (w : List ℕ). word w 8 < 64 → Settled w all t (with_steals all t w))
+            (λ w inside.
+            let mugs : w 4 + t.mugs.0 ≡ w 4 = omega arith in
+            let head : (w 8 + t.mugs.0) % 64 ≡ w 8 = omega arith in
+            let waiting : w 9 - t.mugs.0 ≡ w 9 = omega arith in
+            record { numbers = rw (mugs, head, waiting) refl; tail = tail_from refl refl })
+            words a.size a.head_in_ring)
 
-  module _ {l : List ℕ} (so_far : l ≡ with_steals all t words) where
-    pub mugs_fit : word l 4 + t.mugs.0 < 2 ^ 64
-    mugs_fit = rw (so_far, reads.mugs) (omega (arith, a.room.mugs_fit))
+        pub mugs_fit : word l' 4 + t.mugs.0 < 2 ^ 64
+        mugs_fit = rw (so_far, reads.mugs) (omega (arith, a.room.mugs_fit))
 
-    pub mugs_added : {l' : List ℕ} → l' ≡ add_at l 4 t.mugs.0 → l' ≡ with_mugs all t words
-    mugs_added stored = rw (stored, so_far)
+        -- the words with the mug cycles too
+        module _ {l'' : List ℕ} (mugs : l'' ≡ add_at l' 4 t.mugs.0) where
+          pub head_fits : word l'' 8 + n < 2 ^ 64
+          head_fits = rw (mugs, so_far, reads.head, number) (omega (arith, a.head_in_ring, a.room.mugs_fit))
 
-  -- ---- what they hold at the end
+          pub enough_wait : n ≤ word (set l'' 8 ((word l'' 8 + n) % 64)) 9
+          enough_wait = rw (head_aside, mugs, so_far, number, reads.waiting) a.waited
 
-  -- where nobody mugged, nothing of the ring is written
-  pub settled_unmugged : {l : List ℕ} {n : ℕ} → l ≡ with_steals all t words → n ≡ t.mugs.0 → n ≡ 0 → Settled words all t l
-  settled_unmugged so_far number none =
-      rw so_far
-      (by_words
-      (λ (l : List ℕ). word l 8 < 64 → Settled l all t (with_steals all t l))
-      (λ w inside.
-      let mugs : w 4 + t.mugs.0 ≡ w 4 = omega arith in
-      let head : (w 8 + t.mugs.0) % 64 ≡ w 8 = omega arith in
-      let waiting : w 9 - t.mugs.0 ≡ w 9 = omega arith in
-      record { numbers = rw (mugs, head, waiting) refl; tail = tail_from refl refl })
-      words a.size a.head_in_ring)
-
-  module _ {l : List ℕ} (so_far : l ≡ with_mugs all t words) {n : ℕ} (number : n ≡ t.mugs.0) where
-    pub head_fits : word l 8 + n < 2 ^ 64
-    head_fits = rw (so_far, reads.head, number) (omega (arith, a.head_in_ring, a.room.mugs_fit))
-
-    pub enough_wait : n ≤ word l 9
-    enough_wait = rw (so_far, number, reads.waiting) a.waited
-
-    pub settled_mugged : Settled words all t (set (set l 8 ((word l 8 + n) % 64)) 9 (word (set l 8 ((word l 8 + n) % 64)) 9 - n))
-    settled_mugged =
-        rw (so_far, number)
-        (by_words
-        (λ (l : List ℕ). Settled l all t (with_waiting all t l))
-        (λ w. record { numbers = refl; tail = tail_from refl refl })
-        words a.size)
+          pub settled_mugged : Settled words all t
+              (set (set l'' 8 ((word l'' 8 + n) % 64)) 9 (word (set l'' 8 ((word l'' 8 + n) % 64)) 9 - n))
+          settled_mugged =
+              rw (mugs, so_far, number)
+              (by_words
+              (λ (w : List ℕ). Settled w all t (with_waiting all t w))
+              (λ w. record { numbers = refl; tail = tail_from refl refl })
+              words a.size)
