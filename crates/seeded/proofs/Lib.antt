@@ -1,3 +1,3 @@
--- Drawing: the draws of a seeded tick's cycles, one by one. Seeding: a seeded tick of a job is the plain tick with the drawn choices.
+-- Drawing: one draw more. Seeding: a seeded tick of a job is the plain tick with the drawn choices.
 pub mod Drawing
 pub mod Seeding

@@ -1,6 +1,6 @@
 -- What a seeded tick's cycles ask and promise: those of a plain tick with the drawn choices. And what a seeded tick does to a job and a
 -- seed.
-use Rattle.std.specs.Prelude.{◌≡◌, List, ℕ, ◌<◌}
+use Rattle.std.specs.Prelude.{◌≡◌, refl, List, ℕ, ◌<◌}
 use Rattle.model.specs.Questions.{refused}
 use Rattle.model.specs.Machine.{ticks}
 use Rattle.model.specs.Seeds.{draws, seed_after, Seeded, drawn, seeded_answer, tick_seeded}
@@ -9,6 +9,14 @@ use Rattle.memory.specs.Words.{numbers_in}
 use Rattle.memory.specs.Jobs.{job_plan, job_state}
 use Rattle.engine.specs.Moves.{Moves}
 use Rattle.turn.specs.Turns.{TickTurn, Ticked}
+use Rattle.seeded.specs.declared.Draws.{Draws}
+
+-- ---- the draws
+
+-- before the first draw the state is as it came
+pub begins : (at : Draws) → at ≡ record { state = seed_after 0 at.state }
+unfolding seed_after
+begins at = refl
 
 -- ---- the cycles
 

@@ -3,14 +3,41 @@
 // A seeded tick, in place: the choices are drawn from a seed, one for each granted worker, and the divisions made only where a worker looks
 // for a deque.
 ghost use Rattle.std.specs.Prelude.{◌≡◌};
-ghost use Rattle.model.specs.Seeds.{seeded_answer};
+ghost use Rattle.model.specs.Seeds.{draws, seed_after, seeded_answer};
 ghost use Rattle.call_questions.specs.Answers.{answer_of};
 ghost use Rattle.memory.specs.Jobs.{job, job_before, job_after, job_state};
 ghost use Rattle.engine.specs.Reached.{IsJob};
-ghost use Rattle.seeded.specs.Drawn.{SeededTurn, SeededCycles, TicksSeeded};
+ghost use Rattle.seeded.specs.Drawn.{begins, SeededTurn, SeededCycles, TicksSeeded};
 
 use call_questions::CallRefusal;
 use memory::{Memory, Words};
+use turn::Chooser;
+
+// Choices that are drawn, one draw a worker. The choice is divided out only for a worker that asks for it.
+#[derive(Clone, Copy)]
+struct Draws {
+    state: u32,
+}
+
+impl Chooser for Draws {
+    ghost choices = { λ at workers. draws workers workers at.state };
+
+    ghost after = { λ at w. record { state = seed_after w at.state } };
+
+    #[tactic(auto, using(crate::proofs::Drawing::next_state, laws::proofs::Seeds::draws_length))]
+    fn next(self) -> Draws {
+        Draws {
+            state: seed::next(self.state),
+        }
+    }
+
+    #[tactic(auto, using(laws::proofs::Seeds::draws_at, laws::proofs::Seeds::draws_length))]
+    fn choice(self, _w: usize, workers: usize) -> usize {
+        seed::choice(self.state, workers as u32) as usize
+    }
+
+    ghost begins = { λ at. begins at };
+}
 
 // The cycles of a seeded tick: the workers in number order, one cycle each, and before each of them one draw, whatever its cycle is. The
 // state after the last draw.
@@ -19,23 +46,7 @@ pub fn cycles(memory: &mut Memory, words: &mut Words, seed: u32) -> u32
     ensures { SeededCycles memory.old words.old seed memory.new words.new result }
 {
     let workers = words[memory::WORKERS] as usize;
-    let mut t = tally::no_tally();
-    let mut s = seed;
-    let mut w = 0;
-    while w < workers {
-        s = seed::next(s);
-        let size_at = memory::ENDS + (2 * w + 1);
-        if memory[size_at] > 0 {
-            let completed = work::work_cycle(memory, w);
-            t = tally::add_work(t, completed);
-        } else {
-            let choice = seed::choice(s, workers as u32) as usize;
-            t = turn::idle_cycle(memory, words, w, choice, t);
-        }
-        w += 1;
-    }
-    tally::settle(words, w, t);
-    s
+    turn::cycles_by(memory, words, workers, Draws { state: seed }).state
 }
 
 // A seeded tick: the plain tick with the choices that the seed draws for the granted workers, and the seed is then the state after so many

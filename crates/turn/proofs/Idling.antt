@@ -3,18 +3,19 @@ use mathlib.Core.Path.{◌≡◌, refl}
 use mathlib.Core.List.{List}
 use Prim.Native.Nat.{ℕ, ◌+◌, ◌≤◌, ◌<◌}
 use native.Mathlib.Omega.{arith}
-use lib.ListN.{get_or, set, length-set}
+use lib.ListN.{set, length-set}
 use lib.Seq.{get_or-set_other}
+use Rattle.memory.specs.declared.Deque.{Deque}
 use Rattle.memory.specs.Parts.{parts}
 use Rattle.memory.specs.Words.{word, numbers_in}
-use Rattle.memory.specs.View.{size_at, ends_at, put_part, ring_place}
-use Rattle.deque.specs.Links.{robbed}
+use Rattle.memory.specs.View.{ends_at, put_part, ring_place}
+use Rattle.deque.specs.Links.{Robbable, robbed}
 use Rattle.tally.specs.declared.Tally.{Tally}
 use Rattle.tally.specs.Tallies.{add_mug}
 use Rattle.turn.specs.Turns.{SameButSuccesses, IdleTurn, Idled}
 use Rattle.tally.proofs.Tallying.{mug_added, steal_added, success_added}
 use Rattle.turn.proofs.Mugging.{cycled_mug}
-use Rattle.turn.proofs.Stealing.{cycled_nothing, cycled_theft}
+use Rattle.turn.proofs.Stealing.{robbable, cycled_nothing, cycled_theft}
 
 pub same_words : (words : List ℕ) → SameButSuccesses words words
 same_words words = record { same_length = refl; same_others = λ place ne. refl }
@@ -32,19 +33,23 @@ module _ {memory words : List ℕ} {w choice : ℕ} {t : Tally} (turn : IdleTurn
         same_words = same_words words;
       })
 
-  module _ {n : ℕ} (number : n ≡ t.mugs.0) (none : word words 9 ≤ n) where
-    pub idled_nothing : get_or (parts memory).ends (size_at choice) 0 ≤ 1 → Idled memory words w choice t memory words t
+  module _ {n : ℕ} {chosen : Deque} (number : n ≡ t.mugs.0) (none : word words 9 ≤ n)
+      (reads : chosen ≡ ends_at (parts memory).ends choice) where
+    pub may_rob : 1 < chosen.size → Robbable (parts memory) w choice
+    may_rob many = robbable turn.turn (rw reads at many)
+
+    pub idled_nothing : chosen.size ≤ 1 → Idled memory words w choice t memory words t
     idled_nothing few =
         record {
           cycled =
               rw (steal_added (numbers_in words) w t turn.addable.counted)
-              (cycled_nothing turn.turn turn.empty (omega arith) (omega arith));
+              (cycled_nothing turn.turn turn.empty (omega arith) (omega (arith, rw reads at few)));
           same_works = refl;
           counted = omega (arith, turn.addable.counted);
           same_words = same_words words;
         }
 
-    pub idled_theft : {memory' words' : List ℕ} → 1 < get_or (parts memory).ends (size_at choice) 0 →
+    pub idled_theft : {memory' words' : List ℕ} → 1 < chosen.size →
         parts memory' ≡ robbed (parts memory) w choice → words' ≡ set words 6 (word words 6 + 1) →
         Idled memory words w choice t memory' words' t
     idled_theft many theft stored =
@@ -52,7 +57,7 @@ module _ {memory words : List ℕ} {w choice : ℕ} {t : Tally} (turn : IdleTurn
         (record {
           cycled =
               rw (success_added words w t turn.addable.counted turn.addable.size, theft)
-              (cycled_theft turn.turn (omega arith) turn.empty (omega arith));
+              (cycled_theft turn.turn (rw reads at many) turn.empty (omega arith));
           same_works = refl;
           counted = omega (arith, turn.addable.counted);
           same_words =

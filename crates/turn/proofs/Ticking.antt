@@ -16,10 +16,11 @@ use Rattle.model.specs.Machine.{Execution, cycle, cycles}
 use Rattle.lists.proofs.Tests.{and_left, and_right}
 use Rattle.laws.specs.Invariants.{Placed}
 use Rattle.laws.proofs.Placement.{turn_is_cycle}
+use Rattle.memory.specs.declared.Deque.{Deque}
 use Rattle.memory.specs.Parts.{parts, SamePlan}
 use Rattle.memory.specs.Words.{Numbers, numbers_in, SameTail}
 use Rattle.memory.specs.Graphs.{graph}
-use Rattle.memory.specs.View.{size_at, view}
+use Rattle.memory.specs.View.{ends_at, view}
 use Rattle.memory.specs.Sound.{Sound}
 use Rattle.memory.specs.Cycles.{Room, Grown}
 use Rattle.memory.proofs.Views.{workers_shown, done_at_most}
@@ -111,10 +112,10 @@ module _ {memory words choices : List ℕ} (tick : TickTurn memory words choices
         counted = omega arith;
       }
 
-  pub few_choices : length choices ≤ 64
-  few_choices =
+  pub few_workers : (numbers_in words).workers ≤ 64
+  few_workers =
       let shown = workers_shown (parts memory).next (parts memory).ends (numbers_in words).workers in
-      omega (arith, tick.one_each, tick.sound.lawful.few_workers)
+      omega (arith, tick.sound.lawful.few_workers)
 
   module _ {memory' words' : List ℕ} {t : Tally} {i : ℕ} (u : Underway memory words choices memory' words' t i) where
     abbrev m' : Numbers
@@ -123,13 +124,9 @@ module _ {memory words choices : List ℕ} (tick : TickTurn memory words choices
     abbrev e : Execution
     e = view (parts memory') m'
 
-    -- with more cycles, all of them steals, no count grows by more
-    grown_to : (n : ℕ) → i ≤ n → Grown n (numbers_in words) (numbers_at (numbers_in words') n t)
-    grown_to n more = search rules
-
-    -- the tally can be added, with these cycles or more
-    pub addable : (n : ℕ) → i ≤ n → n ≤ 64 → Addable words' n t
-    addable n more few =
+    -- the tally can be added
+    pub addable : Addable words' i t
+    addable =
         let same = u.same_words.same_others in
         record {
           size = u.same_words.same_length ∙ tick.size;
@@ -137,37 +134,39 @@ module _ {memory words choices : List ℕ} (tick : TickTurn memory words choices
           waited = omega (arith, u.mugged, same 9 (λ e. omega arith), same 4 (λ e. omega arith));
           head_in_ring = rw (same 8 (λ e. omega arith)) tick.sound.kept.head_in_ring;
           counted = omega (arith, u.counted);
-          room = room_grown tick.room (grown_to n more) (omega arith);
+          room = room_grown tick.room u.grown (omega (arith, u.part, tick.one_each, few_workers));
         }
 
     -- all workers have had their cycle, and the tally was added
-    pub tick_over : {words'' : List ℕ} → length choices ≤ i → Settled words' i t words'' → Ticked memory words choices memory' words''
-    tick_over all settled =
+    pub tick_over : {n : ℕ} {words'' : List ℕ} → i ≡ n → n ≡ (numbers_in words).workers → Settled words' n t words'' →
+        Ticked memory words choices memory' words''
+    tick_over {n} {words''} over all settled =
+        let numbers : numbers_in words'' ≡ m' = settled.numbers ∙ ap (λ (k : ℕ). numbers_at (numbers_in words') k t) (sym over) in
         record {
-          shows = ap (view (parts memory')) settled.numbers ∙ sym (u.shows ∙ none_left its_graph choices i e all);
-          sound = rw settled.numbers u.sound;
-          grown = rw settled.numbers (grown_more (omega (arith, u.part, few_choices)) u.grown);
+          shows = ap (view (parts memory')) numbers ∙ sym (u.shows ∙ none_left its_graph choices i e (omega (arith, tick.one_each)));
+          sound = rw numbers u.sound;
+          grown = rw numbers (grown_more (omega (arith, u.part, tick.one_each, few_workers)) u.grown);
           same_plan = u.same_plan;
           tail = tail_then (words_tail u.same_words) settled.tail;
         }
 
     -- ---- the next worker's turn
 
-    module _ (l : i < length choices) where
+    module _ (among : i < (numbers_in words).workers) where
+      each : i < length choices
+      each = omega (arith, tick.one_each)
+
       choice_inside : get_or choices i 0 < (numbers_in words).workers
       choice_inside =
           ltb-true (get_or choices i 0) (numbers_in words).workers
-          (every_place (λ c. ltb c (numbers_in words).workers) choices i tick.all_workers l)
+          (every_place (λ c. ltb c (numbers_in words).workers) choices i tick.all_workers each)
 
-      pub next_turn : ChoiceTurn (parts memory') m' i (get_or choices i 0)
+      next_turn : ChoiceTurn (parts memory') m' i (get_or choices i 0)
       next_turn =
           record {
-            turn = record { sound = u.sound; worker = rw (u.grown.same_workers, ← tick.one_each) l };
+            turn = record { sound = u.sound; worker = rw u.grown.same_workers among };
             chosen = rw u.grown.same_workers choice_inside;
           }
-
-      pub idle_turn : get_or (parts memory').ends (size_at i) 0 ≡ 0 → IdleTurn memory' words' i (get_or choices i 0) t
-      idle_turn empty = record { turn = next_turn; empty = empty; addable = addable i (omega arith) (omega (arith, few_choices)) }
 
       onward : {memory'' words'' : List ℕ} {t'' : Tally} →
           Cycled (parts memory') m' i (get_or choices i 0) (parts memory'') (numbers_at (numbers_in words'') (i + 1) t'') →
@@ -176,10 +175,10 @@ module _ {memory words choices : List ℕ} (tick : TickTurn memory words choices
           let same_graph : graph (parts memory') m'.tasks ≡ its_graph =
           rw (u.same_plan.same_first, u.same_plan.same_second, u.grown.same_tasks) in
           record {
-            part = omega arith;
+            part = omega (arith, each);
             shows =
                 u.shows
-                ∙ one_more its_graph choices i e l (rw (← same_graph) u.sound.lawful.placed)
+                ∙ one_more its_graph choices i e each (rw (← same_graph) u.sound.lawful.placed)
                 ∙ rw (c.shows, add-one, same_graph);
             sound = c.sound;
             grown = grown_then u.grown c.grown;
@@ -195,18 +194,24 @@ module _ {memory words choices : List ℕ} (tick : TickTurn memory words choices
           }
 
       -- the worker's deque is not empty
-      module _ (some : 0 < get_or (parts memory').ends (size_at i) 0) where
+      module _ {own : Deque} (reads : own ≡ ends_at (parts memory').ends i) (some : 0 < own.size) where
         pub work_turn : WorkTurn (parts memory') m' i
-        work_turn = record { turn = next_turn.turn; filled = some }
+        work_turn = record { turn = next_turn.turn; filled = rw reads at some }
 
         pub onward_work : {memory'' : List ℕ} {t'' : Tally} {completed : ℕ} →
             (WorkTurn (parts memory') m' i → Worked (parts memory') m' i (parts memory'') completed) → t'' ≡ add_work t completed →
             Underway memory words choices memory'' words' t'' (i + 1)
         onward_work {memory''} {t''} {completed} promised added =
             onward
-            (rw (added, work_added (numbers_in words') i t completed) (cycled_work next_turn some (promised work_turn))) (same_words words')
+            (rw (added, work_added (numbers_in words') i t completed) (cycled_work next_turn work_turn.filled (promised work_turn)))
+            (same_words words')
             (rw added (omega (arith, u.counted)))
 
-      pub onward_idle : {memory'' words'' : List ℕ} {t'' : Tally} →
-          Idled memory' words' i (get_or choices i 0) t memory'' words'' t'' → Underway memory words choices memory'' words'' t'' (i + 1)
-      onward_idle idled = onward idled.cycled idled.same_words idled.counted
+      -- it is empty
+      module _ {choice : ℕ} (chosen : choice ≡ get_or choices i 0) where
+        pub idle_turn : {own : Deque} → own ≡ ends_at (parts memory').ends i → own.size ≤ 0 → IdleTurn memory' words' i choice t
+        idle_turn reads none = record { turn = rw chosen next_turn; empty = omega (arith, rw reads at none); addable = addable }
+
+        pub onward_idle : {memory'' words'' : List ℕ} {t'' : Tally} → Idled memory' words' i choice t memory'' words'' t'' →
+            Underway memory words choices memory'' words'' t'' (i + 1)
+        onward_idle idled = onward (rw chosen at idled.cycled) idled.same_words idled.counted
