@@ -1,22 +1,26 @@
 -- The fields of a header's five bytes, as the code takes them from the bytes that they cross.
 -- Assumes nothing.
-use mathlib.Core.Path.{◌≡◌, refl, sym, ◌∙◌}
+use mathlib.Core.Path.{◌≡◌, refl, ap, ◌∙◌}
 use mathlib.Core.Bool.{Bool, true, false, cond}
+use mathlib.Core.List.{List}
 use Prim.Native.Nat.{ℕ, ◌+◌, ◌*◌, ◌/◌, ◌%◌, ◌<◌}
 use native.Mathlib.Omega.{arith}
 use lib.Dec.{eqb}
-use borrow.Author.Tests.{eqb-true, eqb-false}
-use Rattle.model.specs.Plan.{form_1, form_3, forms, form_with, field, growth_field_of, utilization_field_of, quantum_length_field_of}
-use Rattle.plan_fields.specs.Fields.{HeaderOf, five_bytes}
+use lib.ListN.{get_or}
+use Rattle.model.specs.Plan.{by_tenths, by_factor, form_1, form_3, forms, form_with, field, growth_field_of, utilization_field_of}
+use Rattle.model.specs.Plan.{quantum_length_field_of, header, number}
+use Rattle.growth.specs.declared.Growth.{Growth}
+use Rattle.growth.specs.Meaning.{growth_of}
+use Rattle.plan_fields.specs.Fields.{HeaderOf}
 use Rattle.plan_fields.proofs.Forms.{gentle, plain}
 
--- a field as it is in form 3, and as it is in the others
-module _ (x y : ℕ) {b : Bool} where
-  pub by_gentle : b ≡ true → x ≡ cond b x y
-  by_gentle e = rw e refl
+abbrev pub five_bytes : ℕ → ℕ → ℕ → ℕ → ℕ → ℕ
+five_bytes a b c d e = (((a * 256 + b) * 256 + c) * 256 + d) * 256 + e
 
-  pub by_plain : b ≡ false → y ≡ cond b x y
-  by_plain e = rw e refl
+pub header_bytes : (bytes : List ℕ) → header bytes ≡
+    five_bytes (get_or bytes 0 0) (get_or bytes 1 0) (get_or bytes 2 0) (get_or bytes 3 0) (get_or bytes 4 0)
+unfolding header number
+header_bytes bytes = omega arith
 
 module _ (a b c d e : ℕ) (a_fits : a < 256) (b_fits : b < 256) (c_fits : c < 256) (d_fits : d < 256) (e_fits : e < 256) where
   form_bits : a / 16 ≡ field 4 36 (five_bytes a b c d e)
@@ -46,50 +50,35 @@ module _ (a b c d e : ℕ) (a_fits : a < 256) (b_fits : b < 256) (c_fits : c < 2
   gentle_length_bits = omega arith
 
   -- what the code takes apart, by the form that the first four bits name
-  module _ (r u q : ℕ) where
-    taken : (is_gentle : Bool) → eqb (a / 16) 3 ≡ is_gentle → r ≡ cond is_gentle (a % 16 * 2 + b / 128) (a / 2 % 8) →
+  module _ (r : Growth) (u q : ℕ) where
+    taken : (is_gentle : Bool) → eqb (a / 16) 3 ≡ is_gentle →
+        growth_of r ≡ cond is_gentle (by_tenths (a % 16 * 2 + b / 128)) (by_factor (a / 2 % 8)) →
         u ≡ cond is_gentle (b % 128) (a % 2 * 64 + b / 4) →
         q ≡ cond is_gentle (c * 64 + d / 4) (b % 4 * 16384 + (c * 64 + d / 4)) →
-        HeaderOf (form_with (field 4 36 (five_bytes a b c d e)) forms) (five_bytes a b c d e)
-        (record {
-          form = a / 16;
-          in_tenths = is_gentle;
-          responsiveness = r;
-          utilization = u;
-          quantum = q;
-          tasks = d % 4 * 256 + e + 1;
-        })
+        HeaderOf (form_with (a / 16) forms) (five_bytes a b c d e)
+        (record { form = a / 16; growth = r; utilization = u; quantum = q; tasks = d % 4 * 256 + e + 1 })
     taken true three its_r its_u its_q =
-        gentle (sym form_bits ∙ eqb-true _ _ three)
+        gentle (a / 16) three
         (record {
           form_read = form_bits;
-          tenths_read = refl;
-          responsiveness_read = its_r ∙ tenths_bits;
+          growth_read = its_r ∙ ap by_tenths tenths_bits;
           utilization_read = its_u ∙ gentle_utilization_bits;
           quantum_read = its_q ∙ gentle_length_bits;
           tasks_read = tasks_bits;
         })
     taken false other its_r its_u its_q =
-        plain (λ three. eqb-false _ _ other (form_bits ∙ three))
+        plain (a / 16) other
         (record {
           form_read = form_bits;
-          tenths_read = refl;
-          responsiveness_read = its_r ∙ factor_bits;
+          growth_read = its_r ∙ ap by_factor factor_bits;
           utilization_read = its_u ∙ plain_utilization_bits;
           quantum_read = its_q ∙ plain_length_bits;
           tasks_read = tasks_bits;
         })
 
-    pub header_taken : r ≡ cond (eqb (a / 16) 3) (a % 16 * 2 + b / 128) (a / 2 % 8) →
+    pub header_taken : growth_of r ≡ cond (eqb (a / 16) 3) (by_tenths (a % 16 * 2 + b / 128)) (by_factor (a / 2 % 8)) →
         u ≡ cond (eqb (a / 16) 3) (b % 128) (a % 2 * 64 + b / 4) →
         q ≡ cond (eqb (a / 16) 3) (c * 64 + d / 4) (b % 4 * 16384 + (c * 64 + d / 4)) →
         HeaderOf (form_with (field 4 36 (five_bytes a b c d e)) forms) (five_bytes a b c d e)
-        (record {
-          form = a / 16;
-          in_tenths = eqb (a / 16) 3;
-          responsiveness = r;
-          utilization = u;
-          quantum = q;
-          tasks = d % 4 * 256 + e + 1;
-        })
-    header_taken its_r its_u its_q = taken (eqb (a / 16) 3) refl its_r its_u its_q
+        (record { form = a / 16; growth = r; utilization = u; quantum = q; tasks = d % 4 * 256 + e + 1 })
+    header_taken its_r its_u its_q = rw (← form_bits) (taken (eqb (a / 16) 3) refl its_r its_u its_q)

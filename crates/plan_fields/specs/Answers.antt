@@ -1,26 +1,24 @@
--- The paper's number for each answer of plan reading.
-use Rattle.std.specs.Prelude.{Bool, true, false}
-use Rattle.model.specs.Questions.{Answer, accepted, refused}
-use Rattle.plan_fields.specs.declared.PlanAnswer.{PlanAnswer}
-use Rattle.plan_fields.specs.declared.PlanAnswer.TheVariants.{Accepted, Short, UnknownForm, BadResponsiveness, BadUtilization}
-use Rattle.plan_fields.specs.declared.PlanAnswer.TheVariants.{NoQuantum, WrongLength, BadFields, BadSuccessors, BadPredecessors}
-use Rattle.plan_fields.specs.declared.PlanAnswer.TheVariants.{LooseEnd, NoTicks}
+-- The paper's number for each refusal of plan reading.
+use Rattle.std.specs.Prelude.{ℕ, Result}
+use Rattle.model.specs.Questions.{Answer}
+use Rattle.refusals.specs.Answers.{answer_by}
+use Rattle.plan_fields.specs.declared.PlanRefusal.{PlanRefusal}
+use Rattle.plan_fields.specs.declared.PlanRefusal.TheVariants.{Short, UnknownForm, BadResponsiveness, BadUtilization, NoQuantum}
+use Rattle.plan_fields.specs.declared.PlanRefusal.TheVariants.{WrongLength, BadFields, BadSuccessors, BadPredecessors, LooseEnd, NoTicks}
 
-abbrev pub answer_of : PlanAnswer → Answer
-answer_of Accepted = accepted
-answer_of Short = refused 1
-answer_of UnknownForm = refused 2
-answer_of BadResponsiveness = refused 3
-answer_of BadUtilization = refused 4
-answer_of NoQuantum = refused 5
-answer_of WrongLength = refused 6
-answer_of BadFields = refused 7
-answer_of BadSuccessors = refused 8
-answer_of BadPredecessors = refused 9
-answer_of LooseEnd = refused 10
-answer_of NoTicks = refused 28
+abbrev pub refusal_number : PlanRefusal → ℕ
+refusal_number Short = 1
+refusal_number UnknownForm = 2
+refusal_number BadResponsiveness = 3
+refusal_number BadUtilization = 4
+refusal_number NoQuantum = 5
+refusal_number WrongLength = 6
+refusal_number BadFields = 7
+refusal_number BadSuccessors = 8
+refusal_number BadPredecessors = 9
+refusal_number LooseEnd = 10
+refusal_number NoTicks = 28
 
--- it is acceptance
-abbrev pub passes : Answer → Bool
-passes accepted = true
-passes (refused n) = false
+-- the answer of what a question or a plan gave
+abbrev pub answer_of : {A : Type 0} → Result A PlanRefusal → Answer
+answer_of r = answer_by refusal_number r

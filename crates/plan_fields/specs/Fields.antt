@@ -1,8 +1,9 @@
 -- The fields of bytes as numbers, and the questions of fields that were read.
 use Rattle.std.specs.Prelude.{◌≡◌, cond, ◌&&◌, List, [], ◌∷◌, ◌++◌, ℕ, ◌+◌, ◌*◌, leb, eqb}
 use Rattle.model.specs.Questions.{Question, ask}
-use Rattle.model.specs.Plan.{Growth, Form, forms, is_form, form_with, field, growth_field_of, utilization_field_of}
+use Rattle.model.specs.Plan.{Growth, Form, forms, is_form, form_with, field, growth_with, growth_field_of, utilization_field_of}
 use Rattle.model.specs.Plan.{quantum_length_field_of, growth_ok, used_fields, fields_ok, targets_ok}
+use Rattle.growth.specs.Meaning.{growth_of}
 use Rattle.plan_fields.specs.declared.Header.{Header}
 use Rattle.plan_fields.specs.declared.TaskFields.{TaskFields}
 
@@ -11,14 +12,10 @@ use Rattle.plan_fields.specs.declared.TaskFields.{TaskFields}
 -- the fields of five bytes as one number, as they are in some form
 pub record HeaderOf (form : Form) (bits : ℕ) (h : Header) : Type 0 where
   pub form_read : h.form ≡ field 4 36 bits
-  pub tenths_read : h.in_tenths ≡ form.in_tenths
-  pub responsiveness_read : h.responsiveness ≡ growth_field_of form bits
+  pub growth_read : growth_of h.growth ≡ growth_with form.in_tenths (growth_field_of form bits)
   pub utilization_read : h.utilization ≡ utilization_field_of form bits
   pub quantum_read : h.quantum ≡ quantum_length_field_of form bits
   pub tasks_read : h.tasks ≡ field 10 0 bits + 1
-
-abbrev pub five_bytes : ℕ → ℕ → ℕ → ℕ → ℕ → ℕ
-five_bytes a b c d e = (((a * 256 + b) * 256 + c) * 256 + d) * 256 + e
 
 -- the fields of a task of some form whose bytes are one number
 pub record TaskOf (form : Form) (bits : ℕ) (f : TaskFields) : Type 0 where
@@ -26,12 +23,6 @@ pub record TaskOf (form : Form) (bits : ℕ) (f : TaskFields) : Type 0 where
   pub first_read : f.first ≡ field 11 (11 + form.duration_bits) bits
   pub second_read : f.second ≡ field 11 form.duration_bits bits
   pub ticks_read : f.ticks ≡ cond (eqb form.duration_bits 0) 1 (field form.duration_bits 0 bits)
-
-abbrev pub three_bytes : ℕ → ℕ → ℕ → ℕ
-three_bytes a b c = (a * 256 + b) * 256 + c
-
-abbrev pub four_bytes : ℕ → ℕ → ℕ → ℕ → ℕ
-four_bytes a b c d = three_bytes a b c * 256 + d
 
 -- ---- the questions of fields that were read
 

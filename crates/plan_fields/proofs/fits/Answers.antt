@@ -1,14 +1,13 @@
--- `plan_fields::fits` meets its contract.
-use lib.Dec.{eqb}
-use Rattle.plan_fields.proofs.Refusals.{bit_small, fits_asked}
+-- `plan_fields::fits` meets its contract: the questions, opened.
+use Rattle.std.proofs.Common.{arith}
+use Rattle.std.proofs.lemmas.Grind.{common_steps}
+use Rattle.model.specs.Tests.{every}
+use Rattle.model.specs.Questions.{first_no}
+use Rattle.model.specs.Plan.{fields_ok, targets_ok, two_differ}
+use Rattle.plan_fields.specs.Fields.{pair_questions}
 use Rattle.plan_fields.proofs.fits.Goals as goal
 
-pub overflow_sub-result : goal.overflow_sub-result
-overflow_sub-result c =
-    bit_small (eqb c.args.f.second 0)
-
 pub returns : goal.returns
+unfolding pair_questions first_no fields_ok targets_ok two_differ every
 returns c =
-    let given = c.args in
-    fits_asked given.n given.t given.f.first given.f.count given.f.second
-    c.last_used-last.result c.last_used-last.ensures
+    grind (arith, common_steps)

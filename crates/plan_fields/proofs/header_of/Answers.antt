@@ -1,9 +1,11 @@
 -- `plan_fields::header_of` meets its contract: the law of Headers, at the bytes.
-use Rattle.plan_fields.proofs.Headers.{header_taken}
+use Rattle.model.specs.Plan.{form_of}
+use Rattle.plan_fields.proofs.Headers.{header_bytes, header_taken}
 use Rattle.plan_fields.proofs.header_of.Goals as goal
 
 pub returns : goal.returns
+unfolding form_of
 returns c =
-    let f = c.ranges in
-    header_taken _ _ _ _ _ f.a.fits f.b.fits f.c.fits f.d.fits f.e.fits _ _ _ c.growth_of.ensures
-    c.utilization_of.ensures c.length_of.ensures
+    rw (header_bytes c.args.bytes)
+    (header_taken _ _ _ _ _ c.element_fits.fits c.element_fits2.fits c.element_fits3.fits c.element_fits4.fits c.element_fits5.fits
+    _ _ _ c.growth_in.ensures c.utilization_in.ensures c.length_in.ensures)
