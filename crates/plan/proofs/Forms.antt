@@ -1,51 +1,41 @@
 -- The plan forms: which there are, where the bytes of a task stand, and how large the fields can be. The tasks of forms 1 and 3 last one
 -- tick.
 use mathlib.Core.Path.{◌≡◌, refl, sym, ◌∙◌}
-use mathlib.Core.Bool.{true, cond}
+use mathlib.Core.Bool.{Bool, true, false, cond}
 use mathlib.Core.Logic.{◌⊎◌, inl, inr}
-use mathlib.Core.List.{List}
+use mathlib.Core.List.{List, [], ◌∷◌}
 use Prim.Native.Nat.{ℕ, zero, suc, ◌+◌, ◌*◌, ◌≤◌, ◌<◌}
 use native.Mathlib.Nat.{add-zero, mul-suc, mul-le-mul}
 use native.Mathlib.Omega.{arith}
 use lib.Dec.{eqb}
 use lib.ListN.{length, get_or}
 use Rattle.model.specs.Plan.{Form, form_1, form_2, form_3, no_form, forms, is_form, form_with, form_of, form_field, number, field, header}
-use Rattle.model.specs.Plan.{task_bits, task_count, duration_field, growth_field_of, utilization_field_of, quantum_length_field_of}
+use Rattle.model.specs.Plan.{task_bits, task_count, duration_field, growth_field_of, quantum_length_field_of}
 use Rattle.model.specs.Plan.{growth_with, growth_field, plan_of, duration_of, longest_duration, longest_quantum}
 use Rattle.model.specs.Statements.{GrowthMost}
 use Rattle.plan_fields.specs.declared.TaskFields.{TaskFields}
-use Rattle.plan_fields.specs.Fields.{TaskOf, three_bytes, four_bytes}
-use Rattle.plan_fields.proofs.Forms.{FormIs, is_one, is_two, is_three, is_none, which_form, four_for_2, three_for_others}
+use Rattle.plan_fields.specs.Fields.{TaskOf}
 use Rattle.lists.proofs.Tests.{true_is_not_false}
 use Rattle.lists.proofs.Tables.{table_at, table_length}
 use Rattle.lists.proofs.Sums.{some_within}
 
 -- ---- which forms there are
 
-data KnownForm (bytes : List ℕ) : Type 0 where
-  is_1 : form_of bytes ≡ form_1 → KnownForm bytes
-  is_2 : form_of bytes ≡ form_2 → KnownForm bytes
-  is_3 : form_of bytes ≡ form_3 → KnownForm bytes
+data KnownForm (row : Form) : Type 0 where
+  is_1 : row ≡ form_1 → KnownForm row
+  is_2 : row ≡ form_2 → KnownForm row
+  is_3 : row ≡ form_3 → KnownForm row
 
-known_form : (bytes : List ℕ) → is_form (form_field bytes) forms ≡ true → KnownForm bytes
-unfolding form_of is_form forms
-known_form bytes h = by (which_form (form_field bytes))
+known_form : (bytes : List ℕ) → is_form (form_field bytes) forms ≡ true → KnownForm (form_of bytes)
+unfolding form_of form_with is_form forms
+known_form bytes h = by (eqb (form_field bytes) 1) (eqb (form_field bytes) 2) (eqb (form_field bytes) 3) h
   where
-    by : FormIs (form_field bytes) → KnownForm bytes
-    by (is_one e row) = is_1 row
-    by (is_two e row) = is_2 row
-    by (is_three e row) = is_3 row
-    by (is_none e row) = absurd (true_is_not_false h (rw (e.0, e.1, e.2) refl))
-
--- the bytes of a task, by the number of the form
-module _ (bytes : List ℕ) {form : ℕ} (given : form ≡ form_field bytes) where
-  pub four_in_2 : form ≡ 2 → 4 ≡ (form_of bytes).task_bytes
-  unfolding form_of
-  four_in_2 two = four_for_2 (form_field bytes) (sym given ∙ two)
-
-  pub three_in_others : is_form (form_field bytes) forms ≡ true → (form ≡ 2 → ⊥) → 3 ≡ (form_of bytes).task_bytes
-  unfolding form_of
-  three_in_others known other = three_for_others (form_field bytes) (λ two. other (given ∙ two)) known
+    by : (a b c : Bool) → cond a true (cond b true (cond c true false)) ≡ true →
+        KnownForm (cond a form_1 (cond b form_2 (cond c form_3 no_form)))
+    by true b c h = is_1 refl
+    by false true c h = is_2 refl
+    by false false true h = is_3 refl
+    by false false false h = absurd (true_is_not_false h refl)
 
 -- ---- the bytes of a task
 
@@ -61,14 +51,19 @@ as_form_3 r =
 
 module _ (bytes : List ℕ) (t : ℕ) where
   bits_of_three : (form_of bytes).task_bytes ≡ 3 →
-      task_bits bytes t ≡ three_bytes (get_or bytes (5 + 3 * t) 0) (get_or bytes (5 + 3 * t + 1) 0) (get_or bytes (5 + 3 * t + 2) 0)
+      task_bits bytes t ≡ number (get_or bytes (5 + 3 * t) 0 ∷ get_or bytes (5 + 3 * t + 1) 0 ∷ get_or bytes (5 + 3 * t + 2) 0 ∷ []) 0 3
   unfolding task_bits number
   bits_of_three e = rw (e, add-zero (5 + 3 * t)) (omega arith)
 
   bits_of_four : (form_of bytes).task_bytes ≡ 4 →
       task_bits bytes t
-      ≡ four_bytes (get_or bytes (5 + 4 * t) 0) (get_or bytes (5 + 4 * t + 1) 0) (get_or bytes (5 + 4 * t + 2) 0)
-      (get_or bytes (5 + 4 * t + 3) 0)
+      ≡ number
+      (get_or bytes (5 + 4 * t) 0
+      ∷ get_or bytes (5 + 4 * t + 1) 0
+      ∷ get_or bytes (5 + 4 * t + 2) 0
+      ∷ get_or bytes (5 + 4 * t + 3) 0
+      ∷ [])
+      0 4
   unfolding task_bits number
   bits_of_four e = rw (e, add-zero (5 + 4 * t)) (omega arith)
 
@@ -77,7 +72,7 @@ module _ (bytes : List ℕ) (t : ℕ) where
     pub three_or_more : 3 ≤ width
     three_or_more = go (known_form bytes known)
       where
-        go : KnownForm bytes → 3 ≤ width
+        go : KnownForm (form_of bytes) → 3 ≤ width
         go (is_1 e) = rw (its_width, e) (omega arith)
         go (is_2 e) = rw (its_width, e) (omega arith)
         go (is_3 e) = rw (its_width, e) (omega arith)
@@ -85,23 +80,27 @@ module _ (bytes : List ℕ) (t : ℕ) where
     module _ {f : TaskFields} where
       pub of_four : width ≡ 4 →
           TaskOf form_2
-          (four_bytes (get_or bytes (5 + width * t) 0) (get_or bytes (5 + width * t + 1) 0) (get_or bytes (5 + width * t + 2) 0)
-          (get_or bytes (5 + width * t + 3) 0)) f →
+          (number
+          (get_or bytes (5 + width * t) 0
+          ∷ get_or bytes (5 + width * t + 1) 0
+          ∷ get_or bytes (5 + width * t + 2) 0
+          ∷ get_or bytes (5 + width * t + 3) 0
+          ∷ []) 0 4) f →
           TaskOf (form_of bytes) (task_bits bytes t) f
       of_four four read = go (known_form bytes known)
         where
-          go : KnownForm bytes → TaskOf (form_of bytes) (task_bits bytes t) f
+          go : KnownForm (form_of bytes) → TaskOf (form_of bytes) (task_bits bytes t) f
           go (is_1 e) = let three : width ≡ 3 = rw (its_width, e) in absurd (omega arith)
           go (is_2 e) = rw (bits_of_four (sym its_width ∙ four), e) (rw four at read)
           go (is_3 e) = let three : width ≡ 3 = rw (its_width, e) in absurd (omega arith)
 
       pub of_three : (width ≡ 4 → ⊥) →
           TaskOf form_1
-          (three_bytes (get_or bytes (5 + width * t) 0) (get_or bytes (5 + width * t + 1) 0) (get_or bytes (5 + width * t + 2) 0)) f →
+          (number (get_or bytes (5 + width * t) 0 ∷ get_or bytes (5 + width * t + 1) 0 ∷ get_or bytes (5 + width * t + 2) 0 ∷ []) 0 3) f →
           TaskOf (form_of bytes) (task_bits bytes t) f
       of_three other read = go (known_form bytes known)
         where
-          go : KnownForm bytes → TaskOf (form_of bytes) (task_bits bytes t) f
+          go : KnownForm (form_of bytes) → TaskOf (form_of bytes) (task_bits bytes t) f
           go (is_1 e) =
               let three : width ≡ 3 = rw (its_width, e) in
               rw (bits_of_three (sym its_width ∙ three), e) (rw three at read)
@@ -121,28 +120,20 @@ task_there width t n size l e =
 
 -- what holds of every form and of what is none, holds of the bytes' own
 each_form : (P : Form → Type 0) → P form_1 → P form_2 → P form_3 → P no_form → (bytes : List ℕ) → P (form_of bytes)
-unfolding form_of
-each_form P a b c d bytes = by (which_form (form_field bytes))
+unfolding form_of form_with forms
+each_form P a b c d bytes = by (eqb (form_field bytes) 1) (eqb (form_field bytes) 2) (eqb (form_field bytes) 3)
   where
-    by : FormIs (form_field bytes) → P (form_with (form_field bytes) forms)
-    by (is_one e row) = rw row a
-    by (is_two e row) = rw row b
-    by (is_three e row) = rw row c
-    by (is_none e row) = rw row d
-
-pub growth_number_most : (bytes : List ℕ) → growth_field_of (form_of bytes) (header bytes) ≤ 31
-growth_number_most bytes =
-    each_form (λ f. growth_field_of f (header bytes) ≤ 31) (omega arith) (omega arith) (omega arith) (omega arith) bytes
+    by : (x y z : Bool) → P (cond x form_1 (cond y form_2 (cond z form_3 no_form)))
+    by true y z = a
+    by false true z = b
+    by false false true = c
+    by false false false = d
 
 pub growth_most : (bytes : List ℕ) → GrowthMost (growth_field bytes)
 unfolding growth_field
 growth_most bytes =
     each_form (λ f. GrowthMost (growth_with f.in_tenths (growth_field_of f (header bytes)))) (omega arith) (omega arith) (omega arith)
     (omega arith) bytes
-
-pub utilization_most : (bytes : List ℕ) → utilization_field_of (form_of bytes) (header bytes) ≤ 127
-utilization_most bytes =
-    each_form (λ f. utilization_field_of f (header bytes) ≤ 127) (omega arith) (omega arith) (omega arith) (omega arith) bytes
 
 pub quantum_most : (bytes : List ℕ) → quantum_length_field_of (form_of bytes) (header bytes) ≤ longest_quantum
 quantum_most bytes =

@@ -1,37 +1,27 @@
 -- Reading the tasks one after the other: from the bytes of a task to its fields, and from the tasks below t to those below t + 1.
 use mathlib.Core.Path.{◌≡◌, refl, sym, ◌∙◌, ap}
-use mathlib.Core.Bool.{true, false}
 use mathlib.Core.List.Memᴰ
 use mathlib.Core.List.{List, flat_map}
+use Rattle.std.specs.Prelude.{Ok}
 use Prim.Native.Nat.{ℕ, zero, suc, ◌+◌, ◌*◌, ◌^◌, ◌≤◌, ◌<◌}
 use native.Mathlib.Numerals.{add-one}
 use native.Mathlib.Omega.{arith}
 use lib.ListN.{get_or}
 use Rattle.model.specs.Tests.{below, member}
-use Rattle.model.specs.Questions.{Question, Answer, accepted, refused, first_no}
-use Rattle.model.specs.Plan.{number, header, form_of, task_bits, duration_field, task_count, count_field, first_field, second_field}
+use Rattle.model.specs.Questions.{Question, accepted, refused, first_no}
+use Rattle.model.specs.Plan.{form_of, task_bits, duration_field, task_count, count_field, first_field, second_field}
 use Rattle.model.specs.Plan.{used_fields, successor_fields}
 use Rattle.model.specs.Plan.{task_questions}
 use Rattle.memory.specs.Parts.{Parts, with_pending}
-use Rattle.plan_fields.specs.Fields.{five_bytes, pair_questions, asked_of_task, TaskOf}
+use Rattle.plan_fields.specs.Fields.{pair_questions, asked_of_task, TaskOf}
 use Rattle.plan.specs.Reads.{noted, counted, fresh_span, Held, TaskRead}
-use Rattle.plan.specs.Reads.{TasksRead}
 use Rattle.plan_fields.specs.declared.TaskFields.{TaskFields}
-use Rattle.plan_fields.specs.declared.PlanAnswer.{PlanAnswer}
-use Rattle.plan_fields.specs.declared.PlanAnswer.TheVariants.{Accepted}
-use Rattle.plan_fields.specs.Answers.{answer_of, passes}
 use Rattle.lists.proofs.Ranges.{keep_below}
 use Rattle.lists.proofs.Questions.{and_then, first_no_below, refused_at}
-use Rattle.plan_fields.proofs.Answers.{passes_is, passes_not}
 use Rattle.plan.proofs.Facts.{FieldFacts, TargetFacts, TaskFacts, task_facts}
 use Rattle.plan.proofs.Stores.{with_fields, stored_held, stored_ends, noted_ends, noted_most, note_successors}
 
--- ---- bytes and fields
-
-pub header_bytes : (bytes : List ℕ) → header bytes ≡
-    five_bytes (get_or bytes 0 0) (get_or bytes 1 0) (get_or bytes 2 0) (get_or bytes 3 0) (get_or bytes 4 0)
-unfolding header number
-header_bytes bytes = omega arith
+-- ---- fields
 
 -- a field that is used is below N, and one that is not is 0
 module _ (n t : ℕ) (some : 1 ≤ n) where
@@ -118,48 +108,35 @@ module _ (bytes : List ℕ) (n t : ℕ) (f : TaskFields) (number : n ≡ task_co
   unfolding duration_field
   ticks_are = at_task.ticks_read
 
-  module _ (r : PlanAnswer) (answered : answer_of r ≡ first_no (asked_of_task n t f)) where
-    pub read_refused : (p : Parts) → passes (answer_of r) ≡ false → TaskRead bytes t r p
-    read_refused p fails =
-        record { answered = answered ∙ asked_as_read; held = λ passed. absurd (passes_not (answer_of r) fails passed) }
+  pub task_refused : {k : ℕ} → refused k ≡ first_no (asked_of_task n t f) → refused k ≡ first_no (task_questions bytes t)
+  task_refused answered = answered ∙ asked_as_read
 
-    module _ (holds : passes (answer_of r) ≡ true) where
-      task_passed : first_no (task_questions bytes t) ≡ accepted
-      task_passed = sym (answered ∙ asked_as_read) ∙ passes_is (answer_of r) holds
+  module _ (answered : accepted ≡ first_no (asked_of_task n t f)) where
+    pub task_passed : first_no (task_questions bytes t) ≡ accepted
+    task_passed = sym (answered ∙ asked_as_read)
 
-      pub first_small : f.first < 1024
-      first_small = rw at_task.first_read (omega (arith, first_inside bytes t task_passed))
+    pub first_small : f.first < 1024
+    first_small = rw at_task.first_read (omega (arith, first_inside bytes t task_passed))
 
-      pub second_small : f.second < 1024
-      second_small = rw at_task.second_read (omega (arith, second_inside bytes t task_passed))
+    pub second_small : f.second < 1024
+    second_small = rw at_task.second_read (omega (arith, second_inside bytes t task_passed))
 
-      -- the fields and the span stored, and then the fields noted
-      pub read_passed : (p p_fields p_1 p_2 : Parts) → t < n → Held bytes t p →
-          p_fields ≡ with_fields p t f.first f.second (fresh_span f.ticks) →
-          p_1 ≡ with_pending p_fields (noted p_fields.pending f.first) → p_2 ≡ with_pending p_1 (noted p_1.pending f.second) →
-          TaskRead bytes t r p_2
-      read_passed p p_fields p_1 p_2 l h e e_1 e_2 =
-          record {
-            answered = answered ∙ asked_as_read;
-            held = λ _.
-                rw (e_2, e_1, e, at_task.first_read, at_task.second_read, ticks_are)
-                (held_more bytes t task_passed p (omega arith) h);
-          }
+    -- the fields and the span stored, and then the fields noted
+    pub read_passed : (p p_fields p_1 p_2 : Parts) → t < n → Held bytes t p →
+        p_fields ≡ with_fields p t f.first f.second (fresh_span f.ticks) →
+        p_1 ≡ with_pending p_fields (noted p_fields.pending f.first) → p_2 ≡ with_pending p_1 (noted p_1.pending f.second) →
+        TaskRead bytes t (Ok tt) p_2
+    read_passed p p_fields p_1 p_2 l h e e_1 e_2 =
+        record {
+          answered = answered ∙ asked_as_read;
+          held =
+              rw (e_2, e_1, e, at_task.first_read, at_task.second_read, ticks_are)
+              (held_more bytes t task_passed p (omega arith) h);
+        }
 
 -- ---- all tasks
 
-refused_there : (f : ℕ → List Question) (a : Answer) (t n : ℕ) → t < n → first_no (flat_map f (below t)) ≡ accepted → a ≡ first_no (f t) →
-    passes a ≡ false → a ≡ first_no (flat_map f (below n))
-refused_there f accepted t n l before e fails = absurd (passes_not accepted fails refl)
-refused_there f (refused k) t n l before e fails = sym (refused_at f t n k l before (sym e))
-
-module _ (bytes : List ℕ) (n t : ℕ) (p : Parts) (held : Held bytes t p) where
-  pub tasks_refused : (r : PlanAnswer) (p' : Parts) → t < n → TaskRead bytes t r p' → passes (answer_of r) ≡ false → TasksRead bytes n r p'
-  tasks_refused r p' l task fails =
-      record {
-        answered = refused_there (task_questions bytes) (answer_of r) t n l held.accepted_so_far task.answered fails;
-        held = λ passed. absurd (passes_not (answer_of r) fails passed);
-      }
-
-  pub tasks_all : t ≡ n → TasksRead bytes n Accepted p
-  tasks_all e = rw (← e) (record { answered = sym held.accepted_so_far; held = λ _. held })
+-- the first "no" is among the questions of all tasks the first, too
+pub refused_there : (f : ℕ → List Question) (k t n : ℕ) → t < n → first_no (flat_map f (below t)) ≡ accepted → refused k ≡ first_no (f t) →
+    refused k ≡ first_no (flat_map f (below n))
+refused_there f k t n l before e = sym (refused_at f t n k l before (sym e))

@@ -10,7 +10,8 @@ use native.Mathlib.Numerals.{add-one}
 use native.Mathlib.Omega.{arith}
 use borrow.Author.Tests.{eqb-true, eqb-false}
 use lib.Dec.{leb, eqb}
-use lib.ListN.{length, get_or, set, drop, length-set}
+use lib.ListN.{length, get_or, set, take, drop, length-set}
+use Rattle.std.proofs.lemmas.List.{length-take, get_or-take, get_or-drop}
 use lib.Seq.{get_or-set_same, get_or-set_other}
 use Rattle.model.specs.Tests.{below, every, member}
 use Rattle.model.specs.Plan.{used_fields}
@@ -169,21 +170,32 @@ note_successors old counts n t (suc (suc more)) first second size small f g h u 
 
 -- ---- the tests of questions 9 and 10, of one task more
 
-pub more_preceded : (memory : List ℕ) (t : ℕ) (all : Bool) → 1 ≤ t → t < 1024 →
-    all ≡ every (one_or_two (parts memory).pending) (drop 1 (below t)) →
-    (all && leb 1 (get_or memory (3072 + t) 0) && leb (get_or memory (3072 + t) 0) 2) ≡
-    every (one_or_two (parts memory).pending) (drop 1 (below (t + 1)))
+-- the counts of the tasks from 1 up, k of them, are a part of the memory
+pub more_preceded : (memory : List ℕ) (k i : ℕ) (all : Bool) → i < length (take k (drop 3073 memory)) → k ≤ 1023 →
+    all ≡ every (one_or_two (parts memory).pending) (drop 1 (below (1 + i))) →
+    (all && leb 1 (get_or (take k (drop 3073 memory)) i 0) && leb (get_or (take k (drop 3073 memory)) i 0) 2) ≡
+    every (one_or_two (parts memory).pending) (drop 1 (below (1 + (i + 1))))
 unfolding one_or_two
-more_preceded memory t all l inside e =
+more_preceded memory k i all l small e =
     let counts = (parts memory).pending in
-    rw (pending_at memory t inside) (and_assoc all (leb 1 (get_or counts t 0)) (leb (get_or counts t 0) 2))
-    ∙ (ap (λ b. b && one_or_two counts t) e
-    ∙ sym (ap (λ n. every (one_or_two counts) (drop 1 (below n))) (add-one t) ∙ every_from_one (one_or_two counts) t l))
+    let inside : i < k = omega (arith, length-take k (drop 3073 memory)) in
+    let there : get_or (take k (drop 3073 memory)) i 0 ≡ get_or counts (1 + i) 0 =
+    get_or-take k (drop 3073 memory) i 0 inside
+    ∙ (get_or-drop 3073 memory i 0
+    ∙ (ap (λ j. get_or memory j 0) (omega arith) ∙ pending_at memory (1 + i) (omega arith))) in
+    rw there (and_assoc all (leb 1 (get_or counts (1 + i) 0)) (leb (get_or counts (1 + i) 0) 2))
+    ∙ (ap (λ b. b && one_or_two counts (1 + i)) e
+    ∙ sym
+    (ap (λ n. every (one_or_two counts) (drop 1 (below n))) (omega arith) ∙ every_from_one (one_or_two counts) (1 + i) (omega arith)))
 
-pub more_followed : (memory : List ℕ) (t : ℕ) (all : Bool) → t < 1024 → all ≡ every (followed (parts memory).first) (below t) →
-    (all && not (eqb (get_or memory t 0) 0)) ≡ every (followed (parts memory).first) (below (t + 1))
+-- the first successors of the tasks but the last, k of them, are its first part
+pub more_followed : (memory : List ℕ) (k i : ℕ) (all : Bool) → i < length (take k memory) → k ≤ 1023 →
+    all ≡ every (followed (parts memory).first) (below i) →
+    (all && not (eqb (get_or (take k memory) i 0) 0)) ≡ every (followed (parts memory).first) (below (i + 1))
 unfolding followed
-more_followed memory t all inside e =
+more_followed memory k i all l small e =
     let first = (parts memory).first in
-    rw (first_at memory t inside) (ap (λ b. b && followed first t) e)
-    ∙ sym (ap (λ n. every (followed first) (below n)) (add-one t) ∙ every_below (followed first) t)
+    let inside : i < k = omega (arith, length-take k memory) in
+    let there : get_or (take k memory) i 0 ≡ get_or first i 0 = get_or-take k memory i 0 inside ∙ first_at memory i (omega arith) in
+    rw there (ap (λ b. b && followed first i) e)
+    ∙ sym (ap (λ n. every (followed first) (below n)) (add-one i) ∙ every_below (followed first) i)

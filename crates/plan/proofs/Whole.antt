@@ -14,7 +14,7 @@ use lib.Seq.{get_or-set_same, get_or-set_other, ext_get_or}
 use Rattle.model.specs.Tests.{below, every, keep, is_empty, member}
 use Rattle.model.specs.Questions.{first_no}
 use Rattle.model.specs.Plan.{successors_of, predecessors, form_of, header, growth_field, utilization_field, task_count}
-use Rattle.model.specs.Plan.{quantum_length_field, growth_field_of, utilization_field_of, quantum_length_field_of}
+use Rattle.model.specs.Plan.{quantum_length_field, utilization_field_of, quantum_length_field_of}
 use Rattle.model.specs.Plan.{count_field, first_field, second_field, used_fields, successor_fields, plan_of, task_questions, all_preceded}
 use Rattle.model.specs.Plan.{one_exit, duration_field}
 use Rattle.lists.proofs.Lists.{alike, below_is, is_member}
@@ -23,6 +23,7 @@ use Rattle.memory.specs.Graphs.{shown, successors_at, successors_view, durations
 use Rattle.memory.specs.View.{left_view}
 use Rattle.memory.proofs.Regions.{region_at, region_length}
 use Rattle.lists.proofs.Tables.{table_same}
+use Rattle.growth.specs.Meaning.{growth_of}
 use Rattle.plan.specs.declared.Heading.{Heading}
 use Rattle.plan.specs.Headings.{plan_view, Ends}
 use Rattle.plan.specs.Reads.{counted, Held, one_or_two, followed, no_memory}
@@ -174,13 +175,13 @@ module _ (bytes : List ℕ) (p : Parts) (held : Held bytes (task_count bytes) p)
   -- ---- the memory
 
   pub memory_holds : (r : Heading) (memory : List ℕ) → parts memory ≡ with_pending p (set p.pending 0 0) →
-      r.in_tenths ≡ (form_of bytes).in_tenths → r.responsiveness ≡ growth_field_of (form_of bytes) (header bytes) →
+      growth_of r.growth ≡ growth_field bytes →
       r.utilization ≡ utilization_field_of (form_of bytes) (header bytes) →
       r.quantum_length ≡ quantum_length_field_of (form_of bytes) (header bytes) → r.tasks ≡ task_count bytes → Holds bytes r memory
-  unfolding plan_view plan_of growth_field utilization_field quantum_length_field
-  memory_holds r memory e e_t e_r e_u e_q e_n =
+  unfolding plan_view plan_of utilization_field quantum_length_field
+  memory_holds r memory e e_g e_u e_q e_n =
       record {
-        shows = rw (e, e_t, e_r, e_u, e_q, e_n, successors_are, durations_are);
+        shows = rw (e, e_g, e_u, e_q, e_n, successors_are, durations_are);
         untouched = rw (e, e_n) left_are;
         preceded = λ t l. rw e (counts_are t);
         first_ends = rw (e, e_n) held.first_ends;

@@ -1,6 +1,7 @@
 -- The plan that a heading and the parts of a memory show.
 use Rattle.std.specs.Prelude.{◌≡◌, List, ℕ, ◌≤◌, length, get_or}
-use Rattle.model.specs.Plan.{Plan, growth_with}
+use Rattle.model.specs.Plan.{Plan}
+use Rattle.growth.specs.Meaning.{growth_of}
 use Rattle.memory.specs.Parts.{Parts}
 use Rattle.memory.specs.Graphs.{graph, durations_view}
 use Rattle.plan.specs.declared.Heading.{Heading}
@@ -10,7 +11,7 @@ plan_view r p =
     record {
       terms =
           record {
-            growth = growth_with r.in_tenths r.responsiveness;
+            growth = growth_of r.growth;
             utilization = r.utilization;
             quantum_length = r.quantum_length;
           };

@@ -1,11 +1,11 @@
 -- What plan reading promises of any bytes.
-use Rattle.std.specs.Prelude.{◌≡◌, false, List, ℕ, ◌<◌, length, get_or, replicate}
-use Rattle.model.specs.Questions.{accepted, refused}
+use Rattle.std.specs.Prelude.{◌≡◌, List, ℕ, ◌<◌, length, get_or, replicate, Result, IfOk}
+use Rattle.model.specs.Questions.{refused}
 use Rattle.model.specs.Plan.{predecessors, plan_of, plan_answer}
 use Rattle.memory.specs.Parts.{parts}
 use Rattle.memory.specs.View.{left_view}
 use Rattle.plan.specs.declared.Heading.{Heading}
-use Rattle.plan_fields.specs.declared.PlanAnswer.{PlanAnswer}
+use Rattle.plan_fields.specs.declared.PlanRefusal.{PlanRefusal}
 use Rattle.plan_fields.specs.Answers.{answer_of}
 use Rattle.plan.specs.Headings.{plan_view, Ends}
 
@@ -22,15 +22,9 @@ pub record Holds (bytes : List ℕ) (r : Heading) (memory : List ℕ) : Type 0 w
   pub no_links : (parts memory).next ≡ replicate 1024 0
   pub no_deques : (parts memory).ends ≡ replicate 256 0
 
--- what stands beside a refusal
-abbrev pub no_heading : PlanAnswer → Heading
-no_heading answer =
-    record { answer = answer; in_tenths = false; responsiveness = 0; utilization = 0; quantum_length = 0; tasks = 0 }
-
--- the answer is the first "no"; where there is none, the heading and the memory hold the plan; a refusal leaves zeros in the heading, and
--- the memory as it came. With a prime: after the call.
-pub record RightHeading (bytes : List ℕ) (r : Heading) (memory memory' : List ℕ) : Type 0 where
-  pub answered : answer_of r.answer ≡ plan_answer bytes
-  pub held : plan_answer bytes ≡ accepted → Holds bytes r memory'
-  pub no_plan : (number : ℕ) → plan_answer bytes ≡ refused number → r ≡ no_heading r.answer
+-- the answer is the first "no"; where there is none, the heading and the memory hold the plan; a refusal leaves the memory as it came, and
+-- there is no heading. With a prime: after the call.
+pub record RightHeading (bytes : List ℕ) (r : Result Heading PlanRefusal) (memory memory' : List ℕ) : Type 0 where
+  pub answered : answer_of r ≡ plan_answer bytes
+  pub held : IfOk r (λ heading. Holds bytes heading memory')
   pub kept : (number : ℕ) → plan_answer bytes ≡ refused number → memory' ≡ memory

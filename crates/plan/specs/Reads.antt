@@ -1,19 +1,20 @@
 -- What the inner functions ask and promise, over plain lists and numbers.
 use Rattle.std.specs.Prelude.{◌≡◌, Bool, true, not, ◌&&◌, ℕ, ◌+◌, ◌*◌, ◌≤◌, ◌<◌, leb, eqb, length, get_or, set, replicate}
+use Rattle.std.specs.Prelude.{Result, IfOk, OnOk}
 use mathlib.Core.List.{List, flat_map}
 use Rattle.model.specs.Tests.{below, keep, member}
-use Rattle.model.specs.Questions.{accepted, refused, first_no}
+use Rattle.model.specs.Questions.{accepted, first_no}
 use Rattle.model.specs.Plan.{forms, is_form, form_of, form_field, header, task_count, first_field, second_field, duration_field}
 use Rattle.model.specs.Plan.{successor_fields}
 use Rattle.model.specs.Plan.{task_questions, header_questions, plan_answer}
 use Rattle.memory.specs.Parts.{Parts, memory_size, span}
 use Rattle.plan_fields.specs.declared.Header.{Header}
-use Rattle.plan_fields.specs.declared.PlanAnswer.{PlanAnswer}
+use Rattle.plan_fields.specs.declared.PlanRefusal.{PlanRefusal}
 use Rattle.plan_fields.specs.Answers.{answer_of}
 use Rattle.plan_fields.specs.Fields.{HeaderOf}
 use Rattle.plan.specs.declared.Heading.{Heading}
 use Rattle.plan.specs.Headings.{Ends}
-use Rattle.plan.specs.Promise.{Holds, no_heading}
+use Rattle.plan.specs.Promise.{Holds}
 
 -- the header is read and accepted
 pub record HeaderRead (bytes : List ℕ) (h : Header) : Type 0 where
@@ -67,14 +68,14 @@ pub record Due (bytes : List ℕ) (n t : ℕ) (p : Parts) : Type 0 where
   pub held : Held bytes t p
 
 -- the answer of task t; where it is acceptance, the tasks below t + 1 are read
-pub record TaskRead (bytes : List ℕ) (t : ℕ) (r : PlanAnswer) (p : Parts) : Type 0 where
+pub record TaskRead (bytes : List ℕ) (t : ℕ) (r : Result (Unit {0}) PlanRefusal) (p : Parts) : Type 0 where
   pub answered : answer_of r ≡ first_no (task_questions bytes t)
-  pub held : answer_of r ≡ accepted → Held bytes (t + 1) p
+  pub held : OnOk r (Held bytes (t + 1) p)
 
 -- the answer of all tasks; where it is acceptance, all n are read
-pub record TasksRead (bytes : List ℕ) (n : ℕ) (r : PlanAnswer) (p : Parts) : Type 0 where
+pub record TasksRead (bytes : List ℕ) (n : ℕ) (r : Result (Unit {0}) PlanRefusal) (p : Parts) : Type 0 where
   pub answered : answer_of r ≡ first_no (flat_map (task_questions bytes) (below n))
-  pub held : answer_of r ≡ accepted → Held bytes n p
+  pub held : OnOk r (Held bytes n p)
 
 -- the tests of questions 9 and 10, over the parts
 unfoldable pub one_or_two : List ℕ → ℕ → Bool
@@ -88,9 +89,8 @@ followed first t = not (eqb (get_or first t 0) 0)
 unfoldable pub no_memory : List ℕ
 no_memory = replicate memory_size 0
 
--- the answer is the first "no"; where there is none, the heading and the memory hold the plan; a refusal leaves zeros in the heading, and
--- the memory with no meaning: nothing is promised of them
-pub record HeadingRead (bytes : List ℕ) (r : Heading) (memory : List ℕ) : Type 0 where
-  pub answered : answer_of r.answer ≡ plan_answer bytes
-  pub held : plan_answer bytes ≡ accepted → Holds bytes r memory
-  pub no_plan : (number : ℕ) → plan_answer bytes ≡ refused number → r ≡ no_heading r.answer
+-- the answer is the first "no"; where there is none, the heading and the memory hold the plan; a refusal leaves the memory with no meaning:
+-- nothing is promised of it
+pub record HeadingRead (bytes : List ℕ) (r : Result Heading PlanRefusal) (memory : List ℕ) : Type 0 where
+  pub answered : answer_of r ≡ plan_answer bytes
+  pub held : IfOk r (λ heading. Holds bytes heading memory)

@@ -1,21 +1,23 @@
 -- `plan::all_preceded` meets its contract. The loop's invariant: `all` is the test of every task from 1 that was passed.
 use mathlib.Core.Path.{◌≡◌, refl}
+use Prim.Native.Nat.{◌+◌}
 use native.Mathlib.Omega.{arith}
+use borrow.Rule.Slice.PartMut.{mid_len}
 use Rattle.model.specs.Tests.{below, every}
 use Rattle.plan.proofs.Stores.{more_preceded}
 use Rattle.plan.proofs.all_preceded.Goals as goal
 
-pub loop-t-init : goal.loop-t-init
+pub loop-count-init : goal.loop-count-init
 unfolding below every
-loop-t-init c =
-    (omega arith, omega arith, refl)
+loop-count-init c =
+    refl
 
-pub loop-t-preserved : goal.loop-t-preserved
-loop-t-preserved c =
-    let head = c.loop-t in
-    (omega arith, omega arith, more_preceded _ head.t head.all head.invariant.0 (omega arith) head.invariant.2)
+pub loop-count-preserved : goal.loop-count-preserved
+loop-count-preserved c =
+    more_preceded _ _ c.loop-count.count-index c.loop-count.all c.loop-count-test.true (omega arith) c.loop-count.invariant
 
 pub returns : goal.returns
 returns c =
-    let all-passed : c.loop-t.t ≡ c.args.n = omega arith in
-    rw (← all-passed) c.loop-t.invariant.2
+    let size = mid_len 3073 (3072 + c.args.n) c.args.memory.now (omega arith) in
+    let all-passed : 1 + c.loop-count.count-index ≡ c.args.n = omega arith in
+    rw (← all-passed) c.loop-count.invariant
