@@ -3,17 +3,17 @@
 use mathlib.Core.Path.{◌≡◌, refl, sym, ap, ◌∙◌}
 use mathlib.Core.Bool.{Bool, true, false, not}
 use mathlib.Core.List.{List, [], ◌∷◌}
+use Rattle.std.specs.Prelude.{Ok, Err}
 use Prim.Native.Nat.{ℕ}
 use native.Mathlib.Omega.{arith}
 use lib.Dec.{eqb}
 use lib.ListN.{replicate, length-replicate}
 use mir.Val.{bool_byte}
 use Rattle.model.specs.Tests.{below, count_set, zeros}
-use Rattle.model.specs.Questions.{accepted}
-use Rattle.model.specs.Plan.{Graph, Plan, tasks, predecessors, plan_of, plan_answer}
+use Rattle.model.specs.Questions.{accepted, refused}
+use Rattle.model.specs.Plan.{Graph, Plan, tasks, predecessors, growth_with, plan_of, plan_answer}
 use Rattle.model.specs.Machine.{fresh}
 use Rattle.model.specs.History.{run, run_from, beginning}
-use Rattle.lists.proofs.Tests.{true_is_not_false}
 use Rattle.lists.proofs.Lists.{count_set_none}
 use Rattle.laws.proofs.Awaiting.{awaited_at_first}
 use Rattle.laws.proofs.Grants as Grants
@@ -24,7 +24,10 @@ use Rattle.memory.specs.Words.{numbers_in}
 use Rattle.memory.specs.Sound.{awaited, worked_in, Kept}
 use Rattle.memory.specs.Jobs.{lent, job_plan, job_state}
 use Rattle.plan.specs.Headings.{plan_view}
-use Rattle.plan_fields.specs.Answers.{answer_of, passes}
+use Rattle.growth.specs.declared.Growth.{Growth}
+use Rattle.growth.specs.declared.Growth.TheVariants.{ByFactor, ByTenths}
+use Rattle.growth.specs.Meaning.{growth_of, is_by_tenths, number_in}
+use Rattle.plan_fields.specs.declared.PlanRefusal.{PlanRefusal}
 use Rattle.plan.specs.Promise.{Holds, RightHeading}
 use Rattle.plan.specs.declared.Heading.{Heading}
 use Rattle.plan.proofs.Sound.{accepted_sound}
@@ -36,19 +39,19 @@ abbrev pub fresh_words : Heading → List ℕ
 fresh_words h =
     h.tasks
     ∷ 0 ∷ 0 ∷ 0 ∷ 0 ∷ 0 ∷ 0 ∷ 0 ∷ 0 ∷ 0
-    ∷ h.responsiveness ∷ h.utilization ∷ h.quantum_length
+    ∷ number_in h.growth ∷ h.utilization ∷ h.quantum_length
     ∷ 1 ∷ 0 ∷ 0 ∷ 0 ∷ 0
-    ∷ bool_byte h.in_tenths ∷ 0 ∷ 0 ∷ []
+    ∷ bool_byte (is_by_tenths h.growth) ∷ 0 ∷ 0 ∷ []
 
--- a flag that is stored as a number is the flag
-flag_kept : (b : Bool) → not (eqb (bool_byte b) 0) ≡ b
-flag_kept true = refl
-flag_kept false = refl
+-- the flag and the number are those of the growth
+growth_kept : (g : Growth) → growth_with (not (eqb (bool_byte (is_by_tenths g)) 0)) (number_in g) ≡ growth_of g
+growth_kept (ByFactor number) = refl
+growth_kept (ByTenths number) = refl
 
 module _ (bytes : List ℕ) (h : Heading) (memory : List ℕ) (answer : plan_answer bytes ≡ accepted) (holds : Holds bytes h memory) where
   fresh_plan : job_plan (lent memory (fresh_words h)) ≡ plan_of bytes
   unfolding job_plan plan_view
-  fresh_plan = rw (flag_kept h.in_tenths) holds.shows
+  fresh_plan = rw (growth_kept h.growth) holds.shows
 
   same_graph : graph (parts memory) h.tasks ≡ (plan_of bytes).graph
   unfolding plan_view
@@ -97,22 +100,28 @@ module _ (bytes : List ℕ) (h : Heading) (memory : List ℕ) (answer : plan_ans
 
 -- ---- what accepting promises
 
-module _ {bytes memory memory' : List ℕ} {h : Heading} (words : List ℕ) (right : RightHeading bytes h memory memory') where
-  pub accepts : passes (answer_of h.answer) ≡ true → Accepts bytes (lent memory words) (lent memory' (fresh_words h))
-  accepts passed =
+module _ {bytes memory memory' : List ℕ} (words : List ℕ) where
+  pub accepts : {h : Heading} → RightHeading bytes (Ok h) memory memory' → Accepts bytes (lent memory words) (lent memory' (fresh_words h))
+  accepts {h} right =
       record {
-        its_plan = λ yes_answer. fresh_plan bytes h memory' yes_answer (right.held yes_answer);
-        its_state = λ yes_answer. fresh_state bytes h memory' yes_answer (right.held yes_answer);
-        reached = λ yes_answer. fresh_reached bytes h memory' yes_answer (right.held yes_answer);
-        unchanged = λ n refusal. absurd (true_is_not_false passed (ap passes (right.answered ∙ refusal)));
+        its_plan = λ yes_answer. fresh_plan bytes h memory' yes_answer right.held;
+        its_state = λ yes_answer. fresh_state bytes h memory' yes_answer right.held;
+        reached = λ yes_answer. fresh_reached bytes h memory' yes_answer right.held;
+        unchanged = λ n refusal. absurd (both n (right.answered ∙ refusal));
       }
+    where
+      both : (n : ℕ) → accepted ≡ refused n → ⊥
+      both n e = cc
 
-  pub refuses : passes (answer_of h.answer) ≡ false → Accepts bytes (lent memory words) (lent memory' words)
-  refuses failed =
-      let none : plan_answer bytes ≡ accepted → ⊥ = λ yes_answer. true_is_not_false (ap passes (right.answered ∙ yes_answer)) failed in
+  pub refuses : {refusal : PlanRefusal} → RightHeading bytes (Err refusal) memory memory' →
+      Accepts bytes (lent memory words) (lent memory' words)
+  refuses right =
       record {
-        its_plan = λ yes_answer. absurd (none yes_answer);
-        its_state = λ yes_answer. absurd (none yes_answer);
-        reached = λ yes_answer. absurd (none yes_answer);
+        its_plan = λ yes_answer. absurd (neither (right.answered ∙ yes_answer));
+        its_state = λ yes_answer. absurd (neither (right.answered ∙ yes_answer));
+        reached = λ yes_answer. absurd (neither (right.answered ∙ yes_answer));
         unchanged = λ n refusal. ap (λ (l : List ℕ). lent l words) (right.kept n refusal);
       }
+    where
+      neither : {n : ℕ} → refused n ≡ accepted → ⊥
+      neither e = cc

@@ -13,22 +13,18 @@ ghost use Rattle.engine.specs.Moves.{Accepts, Moves, MovesWords, Grants};
 
 use call_questions::CallRefusal;
 use memory::{Memory, Words};
-use plan_fields::PlanAnswer;
+use plan_fields::PlanRefusal;
 
-// A plan of any bytes: the memory and the words hold its fresh job, whatever they held before; or the number of the first "no", and they
-// stay as they came.
-pub fn accept(bytes: &[u8], memory: &mut Memory, words: &mut Words) -> PlanAnswer
+// A plan of any bytes: the memory and the words hold its fresh job, whatever they held before; or the first "no", and they stay as
+// they came.
+pub fn accept(bytes: &[u8], memory: &mut Memory, words: &mut Words) -> Result<(), PlanRefusal>
     ensures answered { plan_answer_of result ≡ plan_answer bytes.now }
     ensures accepts { Accepts bytes.now (job_before memory words) (job_after memory words) }
 {
-    let heading = plan::read_into(bytes, memory);
-    let answer = heading.answer;
-    if !plan_fields::passed(answer) {
-        return answer;
-    }
+    let heading = plan::read_into(bytes, memory)?;
     let tasks = heading.tasks as u64;
-    let in_tenths = heading.in_tenths as u64;
-    let responsiveness = heading.responsiveness as u64;
+    let in_tenths = heading.growth.in_tenths() as u64;
+    let responsiveness = heading.growth.number() as u64;
     let utilization = heading.utilization as u64;
     let length = heading.quantum_length as u64;
     *words = [
@@ -54,7 +50,7 @@ pub fn accept(bytes: &[u8], memory: &mut Memory, words: &mut Words) -> PlanAnswe
         0, // the power
         0, // the noted offer
     ];
-    answer
+    Ok(())
 }
 
 // What an accepted grant of g does: its workers, and the quantum that opens.

@@ -2,7 +2,7 @@
 
 // The job record. It carries its plan: a call takes a count or choices and nothing else, and moves the record that it is lent. A thin layer
 // over the in-place core `engine`.
-ghost use Rattle.std.specs.Prelude.{◌≡◌};
+ghost use Rattle.std.specs.Prelude.{◌≡◌, IfOk};
 ghost use Rattle.model.specs.Plan.{plan_answer};
 ghost use Rattle.model.specs.Machine.{grants, ticks, offers, opens, withdraws, call_answer, status};
 ghost use Rattle.plan_fields.specs.Answers.{answer_of as plan_answer_of};
@@ -16,28 +16,18 @@ ghost use Rattle.job.specs.Status.{shown_status, StatusOf};
 
 use call_questions::CallRefusal;
 use memory::{Job, Words};
-use plan_fields::PlanAnswer;
+use plan_fields::PlanRefusal;
 use status::Status;
 
-// The answer, and the record where it is Accepted. On a refusal there is no record: what stands there is the blank.
-#[derive(Clone, Copy)]
-pub struct Acceptance {
-    pub answer: PlanAnswer,
-    pub job: Job,
-}
-
-// A plan of any bytes: the fresh record, or the number of the first "no" and no record.
-pub fn accept(bytes: &[u8]) -> Acceptance
-    ensures answered { plan_answer_of result.answer ≡ plan_answer bytes.now }
-    ensures accepts { Accepts bytes.now blank_job result.job }
+// A plan of any bytes: the fresh record, or the first "no" and no record.
+pub fn accept(bytes: &[u8]) -> Result<Job, PlanRefusal>
+    ensures answered { plan_answer_of result ≡ plan_answer bytes.now }
+    ensures accepts { IfOk result (λ job. Accepts bytes.now blank_job job) }
 {
     let mut memory = [0u16; memory::MEMORY_SIZE];
     let mut words = [0u64; memory::WORD_COUNT];
-    let answer = engine::accept(bytes, &mut memory, &mut words);
-    Acceptance {
-        answer,
-        job: Job { memory, words },
-    }
+    engine::accept(bytes, &mut memory, &mut words)?;
+    Ok(Job { memory, words })
 }
 
 // A grant of g workers, any number. Refused, the record stays as it was.
