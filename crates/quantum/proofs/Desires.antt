@@ -4,33 +4,20 @@ use mathlib.Core.Path.{◌≡◌, refl, sym, ◌∙◌}
 use mathlib.Core.Bool.{Bool, true, false}
 use mathlib.Core.List.{List, [], ◌∷◌}
 use mathlib.Core.Logic.{◌⊎◌, inl, inr}
-use Prim.Native.Nat.{ℕ, zero, suc, ◌-◌, ◌*◌, ◌/◌, ◌≤◌, ◌<◌}
-use native.Mathlib.Nat.{mul-le-mul, le_of_suc-le-suc, not-suc-le-zero}
+use Prim.Native.Nat.{ℕ, zero, suc, ◌-◌, ◌*◌, ◌≤◌, ◌<◌}
+use native.Mathlib.Nat.{le_of_suc-le-suc, not-suc-le-zero}
 use native.Mathlib.Omega.{arith}
-use lib.Dec.{leb, ltb}
+use lib.Dec.{ltb}
 use lib.ListN.{length, get_or, get_or-eq_default}
-use mir.Val.{bool_byte}
-use borrow.Author.Tests.{eq-eqb, ne_eqb, le-leb, lt-leb, ltb-true, ltb-false}
-use Rattle.model.specs.Plan.{Growth, by_factor, by_tenths, growth_with}
-use Rattle.model.specs.Machine.{Wish, efficient, satisfied, raised, lowered, next_wish, desire_at, most_workers, top_desire, row_of}
+use borrow.Author.Tests.{le-leb, lt-leb, ltb-true, ltb-false}
+use Rattle.model.specs.Plan.{by_factor, by_tenths}
+use Rattle.model.specs.Machine.{Wish, raised, lowered, desire_at, most_workers, top_desire, row_of}
 use Rattle.model.specs.Machine.{last_power}
 use Rattle.model.specs.Statements.{TopDesire, WholeParts}
 use Rattle.laws.proofs.Tops.{top_of, at_most_top, room_below, no_room_at}
 use Rattle.laws.proofs.Rows.{whole_parts_of, climbs, past_the_end, inside_row, power_at_most}
 use Rattle.laws.proofs.Ladder.{ladder_of}
-use Rattle.quantum.specs.Closing.{Desired, WasEfficient, Closed}
-
--- ---- the growth that a flag and a number are
-
-module _ {b : Bool} (r : ℕ) (wish : Wish) (tells : Bool) (same : b ≡ tells) where
-  pub desired_in : Desired (growth_with b r) wish → Desired (growth_with tells r) wish
-  desired_in d = rw same at d
-
-  pub raised_in : {w : Wish} → w ≡ raised (growth_with tells r) wish → w ≡ raised (growth_with b r) wish
-  raised_in is = rw same is
-
-  pub lowered_in : {w : Wish} → w ≡ lowered (growth_with tells r) wish → w ≡ lowered (growth_with b r) wish
-  lowered_in is = rw same is
+use Rattle.quantum.specs.Closing.{Desired}
 
 -- ---- a factor: below the top desire there is room for R times the desire, at the top there is none
 
@@ -113,62 +100,9 @@ module _ {t : ℕ} {wish : Wish} (d : Desired (by_tenths t) wish) where
 
 -- ---- lowering
 
--- one power less, where there is one
-pub one_less : (k : ℕ) → k - bool_byte (ltb 0 k) ≡ k - 1
-one_less k = go (ltb 0 k) refl
-  where
-    go : (b : Bool) → ltb 0 k ≡ b → k - bool_byte b ≡ k - 1
-    go true some = refl
-    go false none = let zero_is : k ≤ 0 = ltb-false _ _ none in omega arith
-
--- and there is one to take off, whatever it is above
-pub some_to_take : (a k : ℕ) → bool_byte (ltb a k) ≤ k
-some_to_take a k = go (ltb a k) refl
-  where
-    go : (b : Bool) → ltb a k ≡ b → bool_byte b ≤ k
-    go true some = let more : a < k = ltb-true _ _ some in omega arith
-    go false none = omega arith
-
-pub divides : (r : ℕ) (wish : Wish) (k : ℕ) → k ≡ wish.power - 1 →
-    record { power = k; desire = wish.desire / r } ≡ lowered (by_factor r) wish
-divides r wish k less = rw less refl
-
 -- the whole part one power lower is at most 64, too
 pub goes_down : {t : ℕ} {wish : Wish} → Desired (by_tenths t) wish → (k entry : ℕ) → k ≡ wish.power - 1 → entry ≡ get_or (row_of t) k 65 →
     record { power = k; desire = entry } ≡ lowered (by_tenths t) wish
 goes_down {t} {wish} d k entry less is_entry =
     let lower = climbs (ladder_of (by_tenths t) d.responsive) k wish.power (omega arith) in
     rw (← less, whole_part_inside d.responsive.0 d.responsive.1 k is_entry (omega (arith, d.is_power, d.at_most))) refl
-
--- ---- a quantum's verdict
-
--- D × L × g of the widths that the code has them in
-pub owed_fits : (utilization length granted : ℕ) → utilization < 256 → length < 65536 → granted < 256 →
-    (utilization * length ≤ 16711425) × (utilization * length * granted ≤ 4261413375)
-owed_fits d l g hd hl hg =
-    let paced : d * l ≤ 16711425 = mul-le-mul {n₂ = 255} {m₂ = 65535} (omega arith) (omega arith) in
-    (paced, mul-le-mul {n₂ = 16711425} {m₂ = 255} paced (omega arith))
-
-pub judged : (utilization length granted usage : ℕ) →
-    WasEfficient utilization length granted usage (leb (utilization * length * granted) (100 * usage))
-unfolding efficient
-judged d l g u = record { verdict = λ growth. refl }
-
-module _ {growth : Growth} {utilization length granted usage : ℕ} {wish : Wish} {verdict : Bool}
-    (v : WasEfficient utilization length granted usage verdict) where
-  -- "Inefficient: wanted is divided by R."
-  pub closed_inefficient : {r : Wish} → verdict ≡ false → r ≡ lowered growth wish → Closed growth utilization length wish granted usage r
-  unfolding next_wish
-  closed_inefficient not_efficient lower = record { next = rw (sym (v.verdict growth) ∙ not_efficient) lower }
-
-  -- "Otherwise it stays."
-  pub closed_deprived : verdict ≡ true → (granted ≡ wish.desire → ⊥) → Closed growth utilization length wish granted usage wish
-  unfolding next_wish satisfied
-  closed_deprived good other = record { next = rw (sym (v.verdict growth) ∙ good, ne_eqb granted wish.desire other) refl }
-
-  -- "Efficient and satisfied: multiplied by R, unless that exceeds 64."
-  pub closed_satisfied : {r : Wish} → verdict ≡ true → granted ≡ wish.desire → r ≡ raised growth wish →
-      Closed growth utilization length wish granted usage r
-  unfolding next_wish satisfied
-  closed_satisfied good same higher =
-      record { next = rw (sym (v.verdict growth) ∙ good, eq-eqb granted wish.desire same) higher }

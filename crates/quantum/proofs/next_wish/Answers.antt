@@ -1,15 +1,10 @@
--- `quantum::next_wish` meets its contract: the three cases of a quantum's end.
-use Rattle.quantum.proofs.Desires.{closed_inefficient, closed_deprived, closed_satisfied}
+-- `quantum::next_wish` meets its contract: efficient, and satisfied only by just as many workers as were wanted.
+use mathlib.Core.Path.{sym, ◌∙◌}
+use borrow.Author.Tests.{eq-eqb}
+use Rattle.model.specs.Machine.{next_wish, satisfied}
 use Rattle.quantum.proofs.next_wish.Goals as goal
 
-pub returns-then-not-efficient : goal.returns-then-not-efficient
-returns-then-not-efficient c =
-    closed_inefficient c.was_efficient-efficient.ensures c.if-not-efficient.true c.lowered_wish.ensures
-
-pub returns-then-granted-wish : goal.returns-then-granted-wish
-returns-then-granted-wish c =
-    closed_deprived c.was_efficient-efficient.ensures c.if-not-efficient.false c.if-granted-wish.true
-
 pub returns : goal.returns
+unfolding next_wish satisfied
 returns c =
-    closed_satisfied c.was_efficient-efficient.ensures c.if-not-efficient.false c.if-granted-wish.false c.raised_wish.ensures
+    record { next = rw (sym c.is_efficient.ensures ∙ c.if-not-is_efficient.false, eq-eqb _ _ c.if-granted-wish.false) c.raised.ensures }

@@ -1,11 +1,11 @@
--- `quantum::looked_up_above` meets its contract: the next entry of the row, where there is one that is at most 64.
+-- `Wish::looked_up_above` meets its contract: the next entry of the row, where there is one that is at most 64.
 use native.Mathlib.Numerals.{add-one}
 use Rattle.quantum.proofs.Desires.{goes_up, row_end_stays, last_stays}
-use Rattle.quantum.proofs.looked_up_above.Goals as goal
+use Rattle.quantum.proofs.Wish.looked_up_above.Goals as goal
 
-pub returns-then-wish-eq-LAST_POWER : goal.returns-then-wish-eq-LAST_POWER
-returns-then-wish-eq-LAST_POWER c =
-    last_stays c.requires c.if-wish-eq-LAST_POWER.true
+pub returns-then-self-eq-LAST_POWER : goal.returns-then-self-eq-LAST_POWER
+returns-then-self-eq-LAST_POWER c =
+    last_stays c.requires c.if-self-eq-LAST_POWER.true
 
 pub returns-then-desire-gt-MOST_WORKERS : goal.returns-then-desire-gt-MOST_WORKERS
 returns-then-desire-gt-MOST_WORKERS c =
