@@ -101,20 +101,20 @@ module _ {memory words : List ℕ} {g : ℕ} (w : Grantable memory words g) wher
 
   -- after the withdrawal and the clearing
   module _ {q r : Parts} {waiting : ℕ}
-      (j : Joined m.head p.ends m.waiting q.ends waiting (joining_withdrawn p.ends g m.workers) × SameButEnds p q)
-      (c : Cleared q.ends m.workers g r.ends × SameButEnds q r) where
+      (j : Joined m.head p.ends m.waiting q.ends waiting (joining_withdrawn p.ends g m.workers)) (moved : SameButEnds p q)
+      (c : Cleared q.ends m.workers g r.ends) (moved' : SameButEnds q r) where
     kept_shown : (next : List ℕ) → deques_view next r.ends g ≡ kept next
-    kept_shown next = c.0.kept next ∙ ap (kept_deques g) (j.0.workers_stay next m.workers w.few_workers)
+    kept_shown next = c.kept next ∙ ap (kept_deques g) (j.workers_stay next m.workers w.few_workers)
 
     ring_shown : (next : List ℕ) → muggable_view next r.ends m.head waiting ≡ with_withdrawn next
-    ring_shown next = c.0.ring_stays next m.head waiting ∙ j.0.at_end next
+    ring_shown next = c.ring_stays next m.head waiting ∙ j.at_end next
 
     -- a count above 0 was granted before
     pub granted_later : (word words 14 ≡ 0 → ⊥) → {memory' : List ℕ} → parts memory' ≡ r →
         Granted memory words g memory' (words_after words g waiting)
     unfolding first_task_placed
     granted_later started is =
-        granted waiting r is (moved_then j.1 c.1) c.0.places
+        granted waiting r is (moved_then moved moved') c.places
         (λ next. rw (ne_eqb (word words 14) 0 started) (kept_shown next)) ring_shown
 
     unset : word words 14 ≡ 0 → started_in words ≡ false
@@ -125,7 +125,7 @@ module _ {memory words : List ℕ} {g : ℕ} (w : Grantable memory words g) wher
         Granted memory words g memory' (words_after words g waiting)
     unfolding first_task_placed
     granted_nothing e none is =
-        granted waiting r is (moved_then j.1 c.1) c.0.places
+        granted waiting r is (moved_then moved moved') c.places
         (λ next. rw (unset e, sym (kept_shown next), no_workers next r.ends g none) refl) ring_shown
 
     -- "The first grant above 0 puts piece 0 in worker 0's line."
@@ -133,11 +133,11 @@ module _ {memory words : List ℕ} {g : ℕ} (w : Grantable memory words g) wher
         Granted memory words g memory' (words_after words g waiting)
     unfolding first_task_placed walk
     granted_first e some is =
-        granted waiting (put_part r 0 first_task) is (moved_then j.1 (moved_then c.1 ends_moved))
-        (put_places [] r.ends c.0.places 0 (omega arith) first_task)
+        granted waiting (put_part r 0 first_task) is (moved_then moved (moved_then moved' ends_moved))
+        (put_places [] r.ends c.places 0 (omega arith) first_task)
         (λ next.
         let none = no_workers next p.ends m.workers (w.unstarted (unset e)) in
         rw (unset e)
-        (put_deques next r.ends c.0.places 0 (omega arith) first_task g (omega arith) w.at_most
+        (put_deques next r.ends c.places 0 (omega arith) first_task g (omega arith) w.at_most
         ∙ rw (kept_shown next) (first_placed g (deques_view next p.ends m.workers) (omega arith) none)))
-        (λ next. put_muggable next r.ends c.0.places 0 (omega arith) first_task (omega arith) m.head waiting ∙ ring_shown next)
+        (λ next. put_muggable next r.ends c.places 0 (omega arith) first_task (omega arith) m.head waiting ∙ ring_shown next)

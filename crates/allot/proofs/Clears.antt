@@ -24,23 +24,9 @@ no_deque = record { front = 0; size = 0 }
 -- the deques from `workers` up to `worker` are empty
 pub record Clearing (ends₀ : List ℕ) (workers g : ℕ) (ends : List ℕ) (worker : ℕ) : Type 0 where
   pub places : length ends ≡ 256
-  pub from : workers ≤ worker
-  pub up_to : workers ≤ g → worker ≤ g
   pub only_new : g ≤ workers → worker ≤ workers
   pub emptied : (next : List ℕ) → deques_view next ends worker ≡ deques_view next ends₀ workers ++ replicate (worker - workers) []
   pub ring_stays : (next : List ℕ) (head waiting : ℕ) → muggable_view next ends head waiting ≡ muggable_view next ends₀ head waiting
-
-pub clearing_none : (ends : List ℕ) (workers g : ℕ) → length ends ≡ 256 → Clearing ends workers g ends workers
-clearing_none ends workers g places =
-    let none : workers - workers ≡ 0 = omega arith in
-    record {
-      places = places;
-      from = omega arith;
-      up_to = λ h. h;
-      only_new = λ h. omega arith;
-      emptied = λ next. rw (none, append-nil);
-      ring_stays = λ next head waiting. refl;
-    }
 
 -- the first deques of a view
 take_view : (next ends : List ℕ) (k n : ℕ) → k ≤ n → take k (deques_view next ends n) ≡ deques_view next ends k
@@ -54,20 +40,19 @@ take_view next ends k n h =
     let below_k : i < k = rw size at l in
     get_or-take k (map f (below n)) i [] below_k ∙ table_at f n i [] (omega arith) ∙ sym (table_at f k i [] below_k))
 
-module _ {ends₀ : List ℕ} {workers g : ℕ} {ends : List ℕ} {worker : ℕ} (at : Clearing ends₀ workers g ends worker) (few : g ≤ 64) where
-  pub clearing_more : worker < g → Clearing ends₀ workers g (put_deque ends worker no_deque) (worker + 1)
+module _ {ends₀ : List ℕ} {workers g : ℕ} {ends : List ℕ} {worker : ℕ} (at : Clearing ends₀ workers g ends worker)
+    (from : workers ≤ worker) where
+  pub clearing_more : g ≤ 64 → worker < g → Clearing ends₀ workers g (put_deque ends worker no_deque) (worker + 1)
   unfolding deques_view walk
-  clearing_more inside =
+  clearing_more few inside =
       record {
         places = put_places [] ends at.places worker (omega arith) no_deque;
-        from = omega (arith, at.from);
-        up_to = λ h. omega arith;
         only_new = λ h. omega (arith, at.only_new h);
         emptied = λ next.
             let past : map (deque_at next (put_deque ends worker no_deque)) (below worker) ≡ deques_view next ends worker =
             table_same (deque_at next ends) (deque_at next (put_deque ends worker no_deque)) worker
             (λ i l. put_elsewhere next ends at.places worker (omega arith) no_deque i (omega arith) (λ e. omega arith)) in
-            let more : suc worker - workers ≡ (worker - workers) + 1 = omega (arith, at.from) in
+            let more : suc worker - workers ≡ (worker - workers) + 1 = omega arith in
             rw (add-one worker)
             (table_more (deque_at next (put_deque ends worker no_deque)) worker
             ∙ rw (put_here next ends at.places worker (omega arith) no_deque, past, at.emptied next, append_assoc, more)
@@ -76,9 +61,9 @@ module _ {ends₀ : List ℕ} {workers g : ℕ} {ends : List ℕ} {worker : ℕ}
             put_muggable next ends at.places worker (omega arith) no_deque (omega arith) head waiting ∙ at.ring_stays next head waiting;
       }
 
-  pub clearing_done : g ≤ worker → Cleared ends₀ workers g ends
+  pub clearing_done : (workers ≤ g → worker ≤ g) → g ≤ worker → Cleared ends₀ workers g ends
   unfolding kept_deques
-  clearing_done past =
+  clearing_done up_to past =
       record {
         places = at.places;
         kept = λ next. go next (leb workers g) refl;
@@ -88,14 +73,13 @@ module _ {ends₀ : List ℕ} {workers g : ℕ} {ends : List ℕ} {worker : ℕ}
       go : (next : List ℕ) (b : Bool) → leb workers g ≡ b → deques_view next ends g ≡ kept_deques g (deques_view next ends₀ workers)
       go next true e =
           let more = leb-true workers g e in
-          let up = at.up_to more in
+          let up = up_to more in
           let here : worker ≡ g = omega arith in
           let shown = workers_shown next ends₀ workers in
           rw (take_all g (deques_view next ends₀ workers) (rw shown more), shown) (rw here at (at.emptied next))
       go next false e =
           let less = leb-false workers g e in
           let only = at.only_new (omega arith) in
-          let from = at.from in
           let here : worker ≡ workers = omega arith in
           let none : workers - workers ≡ 0 = omega arith in
           let none_new : g - workers ≡ 0 = omega arith in

@@ -7,6 +7,9 @@ ghost use Rattle.allot.specs.Grants.{Joined, joining_deque, Joinable, joining_wi
 
 use memory::{Deque, Memory, Words};
 
+// The ring of muggable deques is its head and how many wait there, two numbers and no struct: a grant moves no head, and as a field each
+// step would hand it on and promise that it stays.
+
 // A worker's deque joins the end of the muggable ones; an empty one vanishes. How many wait then. Their ring has 64 places: together with
 // the workers' non-empty deques they never number more (request U12), so what waits is never written over.
 fn join(memory: &mut Memory, head: usize, waiting: usize, worker: usize) -> usize
@@ -33,10 +36,8 @@ fn withdraw(memory: &mut Memory, head: usize, waiting: usize, g: usize, workers:
     ensures rest { SameButEnds (parts_before memory) (parts_after memory) }
 {
     let mut joined = waiting;
-    let mut left = workers;
-    while g < left {
-        left -= 1;
-        joined = join(memory, head, joined, left);
+    for worker in (g..workers).rev() {
+        joined = join(memory, head, joined, worker);
     }
     joined
 }
@@ -47,10 +48,8 @@ fn clear(memory: &mut Memory, workers: usize, g: usize)
     ensures cleared { Cleared (parts_before memory).ends workers g (parts_after memory).ends }
     ensures rest { SameButEnds (parts_before memory) (parts_after memory) }
 {
-    let mut worker = workers;
-    while worker < g {
+    for worker in workers..g {
         deque::put(memory, worker, Deque { front: 0, size: 0 });
-        worker += 1;
     }
 }
 
@@ -69,11 +68,7 @@ pub fn allot(memory: &mut Memory, words: &mut Words, g: usize)
     words[memory::WORKERS] = g as u64;
     words[memory::USAGE] = 0;
     clear(memory, workers, g);
-    if started != 0 {
-        return;
+    if started == 0 && g > 0 {
+        deque::put(memory, 0, Deque { front: 0, size: 1 });
     }
-    if g == 0 {
-        return;
-    }
-    deque::put(memory, 0, Deque { front: 0, size: 1 });
 }

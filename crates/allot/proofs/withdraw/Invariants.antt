@@ -3,10 +3,8 @@ use Rattle.memory.specs.Parts.{parts, SameButEnds}
 use Rattle.allot.proofs.Withdrawals.{Withdrawing}
 use Rattle.allot.proofs.withdraw.Given as goal
 
-abbrev pub invariant-loop-left : goal.invariant-loop-left
-invariant-loop-left l =
-    Withdrawing (parts l.initial.memory).ends l.head l.waiting l.g l.workers (parts l.memory).ends l.joined l.left
-    × SameButEnds (parts l.initial.memory) (parts l.memory)
-
-abbrev pub decreases-loop-left : goal.decreases-loop-left
-decreases-loop-left l = l.left
+abbrev pub invariant-loop-worker : goal.invariant-loop-worker
+invariant-loop-worker l = record {
+  withdrawing : Withdrawing (parts l.initial.memory).ends l.head l.waiting l.g l.workers (parts l.memory).ends l.joined l.worker;
+  rest : SameButEnds (parts l.initial.memory) (parts l.memory);
+}
