@@ -31,8 +31,7 @@ pub extern "C" fn jirvaldo_core_grant(memory: &mut Memory, words: &mut Words, wo
     ensures answered { result ≡ call_number (grants workers) (job_before memory words) }
     ensures moves { Moves (grants workers) (job_before memory words) (job_after memory words) }
 {
-    let answer = engine::grant(memory, words, workers);
-    call_questions::number(answer)
+    refusals::number_of(engine::grant(memory, words, workers))
 }
 
 // An offer of any number of workers, which is only noted: it reads and writes the words alone. Refused, they stay as they came.
@@ -41,8 +40,7 @@ pub extern "C" fn jirvaldo_core_offer(words: &mut Words, workers: u64) -> u8
     requires { JobWords words.old }
     ensures { CallsWords (offers workers) words.old words.new result }
 {
-    let noting = engine::offer(words, workers);
-    call_questions::number(noting)
+    refusals::number_of(engine::offer(words, workers))
 }
 
 // An opening of the noted offer for any number of workers: a grant of them, and the note is dropped. While an offer is noted nothing but an
@@ -53,8 +51,7 @@ pub extern "C" fn jirvaldo_core_open(memory: &mut Memory, words: &mut Words, wor
     ensures answered { result ≡ call_number (opens workers) (job_before memory words) }
     ensures moves { Moves (opens workers) (job_before memory words) (job_after memory words) }
 {
-    let opening = engine::open(memory, words, workers);
-    call_questions::number(opening)
+    refusals::number_of(engine::open(memory, words, workers))
 }
 
 // A withdrawal of the noted offer: the note is dropped, and nothing else. It reads and writes the words alone. Refused, they stay as they
@@ -64,8 +61,7 @@ pub extern "C" fn jirvaldo_core_withdraw(words: &mut Words) -> u8
     requires { JobWords words.old }
     ensures { CallsWords withdraws words.old words.new result }
 {
-    let dropping = engine::withdraw(words);
-    call_questions::number(dropping)
+    refusals::number_of(engine::withdraw(words))
 }
 
 // A tick with a choice for each granted worker. Refused, the memory stays as it came.
@@ -75,8 +71,7 @@ pub extern "C" fn jirvaldo_core_tick(memory: &mut Memory, words: &mut Words, cho
     ensures answered { result ≡ call_number (ticks choices.now) (job_before memory words) }
     ensures moves { Moves (ticks choices.now) (job_before memory words) (job_after memory words) }
 {
-    let told = engine::tick(memory, words, choices);
-    call_questions::number(told)
+    refusals::number_of(engine::tick(memory, words, choices))
 }
 
 // The status that the words show.
