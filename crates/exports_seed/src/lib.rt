@@ -25,8 +25,7 @@ pub extern "C" fn jirvaldo_core_tick_seeded(
     ensures answered { result ≡ answer_number (seeded_answer (job_state (job_before memory words))) }
     ensures ticks { TicksSeeded (job_before memory words) seed.old (job_after memory words) seed.new }
 {
-    let told = seeded::tick(memory, words, seed);
-    call_questions::number(told)
+    refusals::number_of(seeded::tick(memory, words, seed))
 }
 
 // The entry of a grant, behind the first `size` bytes of a log's buffer. Refused (14 above 127 workers, 20 without room), the buffer and
