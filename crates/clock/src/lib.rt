@@ -35,7 +35,7 @@ pub fn end_tick(words: &mut Words)
     let terms = Terms {
         growth: Growth::from_parts(
             words[memory::IN_TENTHS] != 0,
-            words[memory::RESPONSIVENESS] as u8,
+            words[memory::RESPONSIVENESS] as usize,
         ),
         utilization: words[memory::UTILIZATION] as u8,
         quantum_length: words[memory::QUANTUM_LENGTH] as u16,

@@ -8,14 +8,14 @@ ghost use Rattle.growth.specs.Meaning.{growth_of, is_by_tenths, number_in};
 #[derive(Clone, Copy, Debug, PartialEq, Eq)]
 pub enum Growth {
     // Forms 1 and 2: a whole number.
-    ByFactor(u8),
+    ByFactor(usize),
     // Form 3: so many tenths.
-    ByTenths(u8),
+    ByTenths(usize),
 }
 
 impl Growth {
     // The growth that a flag and a number stand for where a job is kept as numbers.
-    pub fn from_parts(in_tenths: bool, number: u8) -> Growth
+    pub fn from_parts(in_tenths: bool, number: usize) -> Growth
         ensures { growth_of result ≡ growth_with in_tenths number }
     {
         if in_tenths {
@@ -33,7 +33,7 @@ impl Growth {
     }
 
     // That number.
-    pub fn number(self) -> u8
+    pub fn number(self) -> usize
         ensures { result ≡ number_in self }
     {
         match self {

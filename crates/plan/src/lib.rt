@@ -138,7 +138,7 @@ fn read_graph(
     requires cleared { memory.old ≡ no_memory }
     ensures { HeadingRead bytes.now result memory.new }
 {
-    let n = h.tasks as usize;
+    let n = h.tasks;
     read_form(bytes, form, n, memory)?;
     // what 9 and 10 ask; 9 answers before 10
     let preceded = all_preceded(n, memory);
@@ -152,9 +152,9 @@ fn read_graph(
     memory[memory::PENDING] = 0;
     Ok(Heading {
         growth: h.growth,
-        utilization: h.utilization,
-        quantum_length: h.quantum,
-        tasks: h.tasks,
+        utilization: h.utilization as u8,
+        quantum_length: h.quantum as u16,
+        tasks: n as u16,
     })
 }
 

@@ -62,13 +62,13 @@ pub const TASK_BYTES: usize = 3;
 pub const LASTING_TASK_BYTES: usize = 4;
 
 // Question 2: is there a form of this number?
-impl TryFrom<u8> for Form {
+impl TryFrom<usize> for Form {
     type Error = PlanRefusal;
 
     ghost try_from_gives = { Names };
 
     #[tactic(auto, unfolding(model::specs::Plan::is_form, model::specs::Plan::form_with, model::specs::Plan::forms))]
-    fn try_from(number: u8) -> Result<Form, PlanRefusal> {
+    fn try_from(number: usize) -> Result<Form, PlanRefusal> {
         match number {
             1 => Ok(Form::One),
             2 => Ok(Form::Two),
@@ -93,11 +93,11 @@ impl Form {
 // The header's fields, with the form's number as it was read, and the number of tasks itself and not one less.
 #[derive(Clone, Copy)]
 pub struct Header {
-    pub form: u8,
+    pub form: usize,
     pub growth: Growth,
-    pub utilization: u8,
-    pub quantum: u16,
-    pub tasks: u16,
+    pub utilization: usize,
+    pub quantum: usize,
+    pub tasks: usize,
 }
 
 // A task's fields, and its ticks.
@@ -114,28 +114,32 @@ fn growth_in(gentle: bool, a: u8, b: u8) -> Growth
     ensures { growth_of result ≡ cond gentle (by_tenths (a % 16 * 2 + b / 128)) (by_factor (a / 2 % 8)) }
 {
     if gentle {
-        Growth::ByTenths(a % 16 * 2 + b / 128)
+        Growth::ByTenths((a as usize) % 16 * 2 + (b as usize) / 128)
     } else {
-        Growth::ByFactor(a / 2 % 8)
+        Growth::ByFactor((a / 2 % 8) as usize)
     }
 }
 
 // D: seven bits of the first two bytes, or in form 3 of the second.
-fn utilization_in(gentle: bool, a: u8, b: u8) -> u8
+fn utilization_in(gentle: bool, a: u8, b: u8) -> usize
     ensures { result ≡ cond gentle (b % 128) (a % 2 * 64 + b / 4) }
 {
-    if gentle { b % 128 } else { a % 2 * 64 + b / 4 }
+    if gentle {
+        (b % 128) as usize
+    } else {
+        (a as usize) % 2 * 64 + (b as usize) / 4
+    }
 }
 
 // L: sixteen bits of the second to the fourth byte, or in form 3 the lower fourteen of them.
-fn length_in(gentle: bool, b: u8, low: u16) -> u16
+fn length_in(gentle: bool, b: u8, low: usize) -> usize
     requires { low < 16384 }
     ensures { result ≡ cond gentle low (b % 4 * 16384 + low) }
 {
     if gentle {
         return low;
     }
-    (b as u16) % 4 * 16384 + low
+    (b as usize) % 4 * 16384 + low
 }
 
 // The header's five bytes taken apart, as they are in the form that the first of them names.
@@ -143,15 +147,15 @@ pub fn header_of(bytes: [u8; 5]) -> Header
     ensures { HeaderOf (form_of bytes) (header bytes) result }
 {
     let [a, b, c, d, e] = bytes;
-    let form = a / 16;
+    let form = (a / 16) as usize;
     let gentle = form == 3;
-    let low = (c as u16) * 64 + (d as u16) / 4;
+    let low = (c as usize) * 64 + (d as usize) / 4;
     Header {
         form,
         growth: growth_in(gentle, a, b),
         utilization: utilization_in(gentle, a, b),
         quantum: length_in(gentle, b, low),
-        tasks: (d as u16) % 4 * 256 + (e as u16) + 1,
+        tasks: (d as usize) % 4 * 256 + (e as usize) + 1,
     }
 }
 
@@ -174,7 +178,7 @@ pub fn header_answer(h: Header, size: usize) -> Result<Form, PlanRefusal>
     ensures its_form { IfOk result (λ form. row_of form ≡ form_with h.form forms) }
 {
     let form = Form::try_from(h.form)?;
-    let whole = 5 + form.task_bytes() * (h.tasks as usize);
+    let whole = 5 + form.task_bytes() * h.tasks;
     if !growth_passes(h.growth) {
         return Err(PlanRefusal::BadResponsiveness);
     }

@@ -37,19 +37,19 @@ const LAST_POWER: u8 = 22;
 
 // The largest power of the responsiveness that is at most 64: the entry of model's table.
 #[tactic(auto, unfolding(model::specs::Machine::top_desires))]
-fn top_desire(responsiveness: u8) -> u8
+fn top_desire(responsiveness: usize) -> u8
     requires { (2 ≤ responsiveness) × (responsiveness ≤ 7) }
     ensures { result ≡ top_desire responsiveness }
 {
-    TOP_DESIRES[(responsiveness - 2) as usize]
+    TOP_DESIRES[responsiveness - 2]
 }
 
 // The whole part of a power of a ratio in tenths: the entry of model's row, and 65 past its end.
-fn whole_part(tenths: u8, power: u8) -> u8
+fn whole_part(tenths: usize, power: u8) -> u8
     requires { (12 ≤ tenths) × (tenths ≤ 20) × (power ≤ last_power) }
     ensures { result ≡ get_or (row_of tenths) power 65 }
 {
-    rows::WHOLE_PARTS[(tenths - 12) as usize][power as usize]
+    rows::WHOLE_PARTS[tenths - 12][power as usize]
 }
 
 impl Terms {
@@ -66,7 +66,7 @@ impl Terms {
 
 impl Wish {
     // "multiplied by R, unless that exceeds 64": the top desire stays.
-    fn multiplied(self, responsiveness: u8) -> Wish
+    fn multiplied(self, responsiveness: usize) -> Wish
         requires { Desired (by_factor responsiveness) (wish_of self) }
         ensures { wish_of result ≡ raised (by_factor responsiveness) (wish_of self) }
     {
@@ -75,12 +75,12 @@ impl Wish {
         }
         Wish {
             power: self.power + 1,
-            desire: self.desire * responsiveness,
+            desire: self.desire * responsiveness as u8,
         }
     }
 
     // "rises by one .., as long as the result is at most 64": the last power of a row stays.
-    fn looked_up_above(self, tenths: u8) -> Wish
+    fn looked_up_above(self, tenths: usize) -> Wish
         requires { Desired (by_tenths tenths) (wish_of self) }
         ensures { wish_of result ≡ raised (by_tenths tenths) (wish_of self) }
     {
@@ -113,7 +113,7 @@ impl Wish {
     {
         let power = self.power.saturating_sub(1);
         let desire = match growth {
-            Growth::ByFactor(responsiveness) => self.desire / responsiveness,
+            Growth::ByFactor(responsiveness) => self.desire / responsiveness as u8,
             Growth::ByTenths(tenths) => whole_part(tenths, power),
         };
         Wish { power, desire }
