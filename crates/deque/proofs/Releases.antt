@@ -30,22 +30,21 @@ same_rest_after a b =
 
 module _ (p : Parts) (task : ℕ) (deque : Deque) where
   -- an unused field
-  pub released_none : {at : ℕ} → at ≡ task → at ≡ 0 → Released p task deque p deque
+  pub released_none : task ≡ 0 → Released p task deque p deque
   unfolding one_less
-  released_none e z =
-      let off : eqb task 0 ≡ true = eq-eqb task 0 (omega arith) in
+  released_none z =
+      let off : eqb task 0 ≡ true = eq-eqb task 0 z in
       record { counted = rw off; pushed = rw off; undisturbed = λ f s h. refl; same_links = refl; grown = omega arith; rest = same_rest p }
 
   -- the task still awaits another one
-  pub released_later : {at : ℕ} → at ≡ task → (at ≡ 0 → ⊥) → 1 < get_or p.pending at 0 →
-      Released p task deque (with_pending p (set p.pending at (get_or p.pending at 0 - 1))) deque
+  pub released_later : (task ≡ 0 → ⊥) → 1 < get_or p.pending task 0 →
+      Released p task deque (with_pending p (set p.pending task (get_or p.pending task 0 - 1))) deque
   unfolding one_less
-  released_later e nz more =
-      let more' : 1 < get_or p.pending task 0 = rw e at more in
-      let on : eqb task 0 ≡ false = ne_eqb task 0 (λ z. nz (e ∙ z)) in
-      let later : leb (get_or p.pending task 0) 1 ≡ false = lt-leb (get_or p.pending task 0) 1 more' in
+  released_later nz more =
+      let on : eqb task 0 ≡ false = ne_eqb task 0 nz in
+      let later : leb (get_or p.pending task 0) 1 ≡ false = lt-leb (get_or p.pending task 0) 1 more in
       record {
-        counted = rw (on, e);
+        counted = rw on;
         pushed = rw (on, later);
         undisturbed = λ f s h. refl;
         same_links = refl;
@@ -54,20 +53,18 @@ module _ (p : Parts) (task : ℕ) (deque : Deque) where
       }
 
   -- it awaits none any more, and is pushed
-  pub released_now : {at : ℕ} → Releasable p task deque → at ≡ task → (at ≡ 0 → ⊥) → get_or p.pending at 0 ≤ 1 →
+  pub released_now : Releasable p task deque → (task ≡ 0 → ⊥) → get_or p.pending task 0 ≤ 1 →
       Released p task deque
-      (with_next (with_pending p (set p.pending at (get_or p.pending at 0 - 1))) (set p.next at deque.front))
+      (with_next (with_pending p (set p.pending task (get_or p.pending task 0 - 1))) (set p.next task deque.front))
       (record { front = task; size = deque.size + 1 })
   unfolding one_less
-  released_now r e nz few =
-      let few' : get_or p.pending task 0 ≤ 1 = rw e at few in
-      let nz' : task ≡ 0 → ⊥ = λ z. nz (e ∙ z) in
-      let on : eqb task 0 ≡ false = ne_eqb task 0 nz' in
-      let now : leb (get_or p.pending task 0) 1 ≡ true = le-leb (get_or p.pending task 0) 1 few' in
+  released_now r nz few =
+      let on : eqb task 0 ≡ false = ne_eqb task 0 nz in
+      let now : leb (get_or p.pending task 0) 1 ≡ true = le-leb (get_or p.pending task 0) 1 few in
       record {
-        counted = rw (on, e);
-        pushed = rw (on, now, e) (walk_push p.next task deque.front deque.size (rw r.links r.inside) (r.elsewhere nz'));
-        undisturbed = λ f s h. rw e (walk_set p.next task deque.front f s (h nz'));
+        counted = rw on;
+        pushed = rw (on, now) (walk_push p.next task deque.front deque.size (rw r.links r.inside) (r.elsewhere nz));
+        undisturbed = λ f s h. walk_set p.next task deque.front f s (h nz);
         same_links = simp length-set;
         grown = omega arith;
         rest = record { same_first = refl; same_second = refl; same_ends = refl; same_spans = refl };

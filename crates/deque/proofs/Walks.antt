@@ -2,7 +2,7 @@
 use mathlib.Core.Path.{◌≡◌, refl, ap}
 use mathlib.Core.Bool.{true}
 use mathlib.Core.List.{List, ◌∷◌}
-use Prim.Native.Nat.{ℕ, zero, suc, ◌+◌, ◌-◌, ◌≤◌, ◌<◌}
+use Prim.Native.Nat.{ℕ, zero, suc, ◌+◌, ◌≤◌, ◌<◌}
 use native.Mathlib.Omega.{arith}
 use native.Mathlib.Nat.{zero-add, suc-add}
 use lib.Dec.{ltb}
@@ -27,21 +27,20 @@ drop_walk next front (suc a) b = rw suc-add (drop_walk next (get_or next front 0
 
 -- ---- following a link
 
--- what a link that is followed leaves to follow
-pub record Link (next : List ℕ) (front left : ℕ) : Type 0 where
+-- what a link that is followed, one of `left`, leaves to follow
+pub record Link (next : List ℕ) (front left less : ℕ) : Type 0 where
   pub here : front < 1024
-  pub onward : every (λ t. ltb t 1024) (walk next (get_or next front 0) (left - 1)) ≡ true
-  pub same : link_after next front left ≡ link_after next (get_or next front 0) (left - 1)
+  pub onward : Reachable next (get_or next front 0) less
+  pub same : link_after next front left ≡ link_after next (get_or next front 0) less
 
-pub follow : (next : List ℕ) (front left : ℕ) → 0 < left → every (λ t. ltb t 1024) (walk next front left) ≡ true → Link next front left
+pub follow : (next : List ℕ) (front left less : ℕ) → left ≡ suc less → Reachable next front left → Link next front left less
 unfolding walk every link_after
-follow next front zero h inside = absurd (omega arith)
-follow next front (suc left) h inside =
-    let less : suc left - 1 ≡ left = omega arith in
+follow next front left less e inside =
+    let within : every (λ t. ltb t 1024) (walk next front (suc less)) ≡ true = rw e at inside in
     record {
-      here = ltb-true front 1024 (and_left (ltb front 1024) (every (λ t. ltb t 1024) (walk next (get_or next front 0) left)) inside);
-      onward = rw less (and_right (ltb front 1024) (every (λ t. ltb t 1024) (walk next (get_or next front 0) left)) inside);
-      same = rw less;
+      here = ltb-true front 1024 (and_left (ltb front 1024) (every (λ t. ltb t 1024) (walk next (get_or next front 0) less)) within);
+      onward = and_right (ltb front 1024) (every (λ t. ltb t 1024) (walk next (get_or next front 0) less)) within;
+      same = rw e;
     }
 
 -- links that can be followed to the back can be followed part of the way

@@ -11,14 +11,8 @@ ghost use Rattle.deque.specs.Releasing.{Releasable, Released, AllReleasable, All
 
 use memory::{Deque, Memory};
 
-// A number as an index.
-pub fn wide(x: u16) -> usize
-    ensures { result ≡ x }
-{
-    x as usize
-}
-
 // The deque at a place.
+#[tactic(auto, using(memory::proofs::Regions::deque_read))]
 pub fn deque_at(memory: &Memory, place: usize) -> Deque
     requires { place < 128 }
     ensures { result ≡ ends_at (parts memory.now).ends place }
@@ -32,6 +26,7 @@ pub fn deque_at(memory: &Memory, place: usize) -> Deque
 }
 
 // A deque is put at a place.
+#[tactic(auto, using(memory::proofs::Regions::put_stored))]
 pub fn put(memory: &mut Memory, place: usize, deque: Deque)
     requires { place < 128 }
     ensures { parts_after memory ≡ put_part (parts_before memory) place deque }
@@ -57,16 +52,14 @@ pub fn ahead(memory: &Memory, front: u16, steps: u16) -> u16
     ensures { result ≡ link_after (parts memory.now).next front steps }
 {
     let mut task = front;
-    let mut left = steps;
-    while left > 0 {
-        let at = memory::NEXT + wide(task);
-        task = memory[at];
-        left -= 1;
+    for _ in 0..steps {
+        task = memory[memory::NEXT + task as usize];
     }
     task
 }
 
 // How many tasks a steal takes from the back of a deque: half of them, rounded down.
+#[tactic(auto, unfolding(model::specs::Machine::stolen_count))]
 fn stolen_count(size: u16) -> u16
     ensures { result ≡ stolen_count size }
 {
@@ -99,7 +92,7 @@ pub fn release(memory: &mut Memory, task: u16, deque: Deque) -> Deque
     requires { Releasable (parts memory.old) task deque }
     ensures { Released (parts_before memory) task deque (parts_after memory) result }
 {
-    let at = wide(task);
+    let at = task as usize;
     if at == 0 {
         return Deque {
             front: deque.front,

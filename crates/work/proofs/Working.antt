@@ -370,10 +370,13 @@ module _ {p : Parts} {m : Numbers} {w : ℕ} (turn : WorkTurn p m w) where
 
 -- ---- in a memory, a tick
 
-module _ (memory : List ℕ) {m : Numbers} {w : ℕ} (turn : WorkTurn (parts memory) m w)
-    {task : ℕ} (wide : task ≡ get_or memory (4096 + front_at w) 0) where
+module _ (memory : List ℕ) {m : Numbers} {w : ℕ} (turn : WorkTurn (parts memory) m w) where
+  -- the front task, as it stands there
+  abbrev task : ℕ
+  task = get_or memory (4096 + front_at w) 0
+
   here : task ≡ front_task (parts memory) w
-  here = wide ∙ ends_part_at memory (front_at w) (omega (arith, place turn))
+  here = ends_part_at memory (front_at w) (omega (arith, place turn))
 
   pub task_inside : task < 1024
   task_inside = rw here (front_inside turn)
@@ -466,23 +469,28 @@ module _ (memory : List ℕ) {p : Parts} {m : Numbers} {w task size : ℕ} (ende
   pub done_none : first_field ≡ 0 → Worked p m w (parts (behind_front memory)) 1
   done_none z = done (all_none _ _ _ _ z) (put_stored memory w others (place turn))
 
-  module _ (alone : second_field ≡ 0) (nz : first_field ≡ 0 → ⊥) {at : ℕ} (same : at ≡ first_field) where
-    pub one_fits : at < 1024
-    one_fits = one_inside memory all_releasable alone nz same
+  module _ (alone : second_field ≡ 0) (nz : first_field ≡ 0 → ⊥) where
+    pub one_fits : first_field < 1024
+    one_fits = one_inside memory all_releasable alone nz
 
-    pub one_waits : 1 ≤ get_or memory (3072 + at) 0
-    one_waits = one_awaits memory all_releasable alone nz same
+    pub one_waits : 1 ≤ get_or memory (3072 + first_field) 0
+    one_waits = one_awaits memory all_releasable alone nz
 
     abbrev lessened : List ℕ
-    lessened = set memory (3072 + at) (get_or memory (3072 + at) 0 - 1)
+    lessened = set memory (3072 + first_field) (get_or memory (3072 + first_field) 0 - 1)
 
-    pub done_later : (get_or memory (3072 + at) 0 ≡ 1 → ⊥) → Worked p m w (parts (behind_front lessened)) 1
-    done_later more = done (one_later memory all_releasable alone nz same more) (put_stored lessened w others (place turn))
+    pub done_later : (get_or memory (3072 + first_field) 0 ≡ 1 → ⊥) → Worked p m w (parts (behind_front lessened)) 1
+    done_later more = done (one_later memory all_releasable alone nz more) (put_stored lessened w others (place turn))
 
-    pub done_now : get_or memory (3072 + at) 0 ≡ 1 →
-        Worked p m w (parts (set (set lessened (2048 + at) others.front) (4096 + front_at w) first_field)) 1
+    pub done_now : get_or memory (3072 + first_field) 0 ≡ 1 →
+        Worked p m w (parts (set (set lessened (2048 + first_field) others.front) (4096 + front_at w) first_field)) 1
     done_now last =
-        let r = one_now memory all_releasable alone nz same last in
-        let kept : get_or (parts (set lessened (2048 + at) others.front)).ends (size_at w) 0 ≡ others.size + 1 =
+        let r = one_now memory all_releasable alone nz last in
+        let kept : get_or (parts (set lessened (2048 + first_field) others.front)).ends (size_at w) 0 ≡ others.size + 1 =
         rw (r.rest.same_ends, ends_same, ← ended.its_size) (omega (arith, own_filled)) in
-        done r (front_stored (set lessened (2048 + at) others.front) w first_field (others.size + 1) (place turn) kept)
+        done r (front_stored (set lessened (2048 + first_field) others.front) w first_field (others.size + 1) (place turn) kept)
+
+-- the places that a tick and a completion read and write are in the memory, and what they count down is above 0
+pub ruleset tick_in_place = (worker_place, task_inside, span_some)
+
+pub ruleset completion_in_place = (worker_here, task_here, own_filled, one_fits, one_waits)

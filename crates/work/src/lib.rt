@@ -9,6 +9,7 @@ use memory::{Deque, Memory};
 
 // The front task of the worker's deque, one of so many there, had its last tick: it leaves, and its successors that became ready take its
 // place. A task with one successor comes first: where that one became ready, it is the new front and the size stays.
+#[tactic(auto, using(crate::proofs::Working::completion_in_place))]
 fn complete(memory: &mut Memory, w: usize, task: usize, size: u16)
     requires { (p : Parts) × ((m : Numbers) × LastTick p m w task size (parts memory.old)) }
     ensures { (p : Parts) (m : Numbers) → LastTick p m w task size (parts_before memory) →
@@ -27,7 +28,7 @@ fn complete(memory: &mut Memory, w: usize, task: usize, size: u16)
             memory[size_at] = size - 1;
             return;
         }
-        let at = deque::wide(one);
+        let at = one as usize;
         let awaits_at = memory::PENDING + at;
         let awaited = memory[awaits_at];
         memory[awaits_at] = awaited - 1;
@@ -55,6 +56,7 @@ fn complete(memory: &mut Memory, w: usize, task: usize, size: u16)
 
 // A work cycle takes one tick off the front task of the worker's deque. The task stays in front until its last tick, which completes it:
 // then the answer is 1, and else 0.
+#[tactic(auto, using(crate::proofs::Working::tick_in_place))]
 pub fn work_cycle(memory: &mut Memory, w: usize) -> u64
     requires { (m : Numbers) × WorkTurn (parts memory.old) m w }
     ensures { (m : Numbers) → WorkTurn (parts_before memory) m w →
@@ -64,7 +66,7 @@ pub fn work_cycle(memory: &mut Memory, w: usize) -> u64
     let size_at = memory::ENDS + (2 * w + 1);
     let front = memory[front_at];
     let size = memory[size_at];
-    let task = deque::wide(front);
+    let task = front as usize;
     let span_at = memory::SPANS + task;
     let span = memory[span_at];
     memory[span_at] = span - 1;
