@@ -21,7 +21,7 @@ pub extern "C" fn jirvaldo_core_accept(plan: &[u8], memory: &mut Memory, words: 
     ensures accepts { Accepts plan.now (job_before memory words) (job_after memory words) }
 {
     let answer = engine::accept(plan, memory, words);
-    plan_fields::number(answer)
+    refusals::number_of(answer)
 }
 
 // A grant of any number of workers. Refused, the memory stays as it came.

@@ -20,6 +20,7 @@ use plan_fields::PlanRefusal;
 use status::Status;
 
 // A plan of any bytes: the fresh record, or the first "no" and no record.
+#[tactic(auto, unfolding(crate::specs::Blank::blank_job))]
 pub fn accept(bytes: &[u8]) -> Result<Job, PlanRefusal>
     ensures answered { plan_answer_of result ≡ plan_answer bytes.now }
     ensures accepts { IfOk result (λ job. Accepts bytes.now blank_job job) }
