@@ -73,8 +73,8 @@ module _ (words : List ℕ) (sized : length words ≡ word_count) (is_open : ope
 -- the quantum closes
 pub closed_ended : (words : List ℕ) → length words ≡ word_count → (word (counted_words words) 2 ≡ word (counted_words words) 0 → ⊥) →
     word (counted_words words) 16 ≡ word (counted_words words) 12 → (wish : Wish) →
-    Closed (terms_in (counted_words words)) (wish_in (counted_words words)) (word (counted_words words) 1) (word (counted_words words) 7) wish →
-    TickEnded words (closed_words words wish)
+    Closed (terms_in (counted_words words)) (wish_in (counted_words words)) (word (counted_words words) 1) (word (counted_words words) 7)
+    wish → TickEnded words (closed_words words wish)
 unfolding job_state quantum_ended closes closed job_plan
 closed_ended words sized undone last wish after =
     by_words
