@@ -9,10 +9,9 @@ use native.Mathlib.Omega.{arith}
 use lib.ListN.{length, drop, drop_of_length-le}
 use denote.Ref.{Bor}
 use Rattle.model.specs.Log.{Entries, entries_up_to, entries}
-use Rattle.log_reader.specs.declared.Entry.{Entry}
-use Rattle.log_reader.specs.declared.Entry.TheVariants.{Grant, Tick, Broken, End}
 use Rattle.log_reader.specs.declared.LogReader.{LogReader}
-use Rattle.log_reader.specs.Reading.{past_entry, then_entries, started, entry_here, passed, read_on}
+use Rattle.std.specs.Prelude.{Some, None, Ok, Err}
+use Rattle.log_reader.specs.Reading.{Placed, past_entry, then_entries, started, entry_here, passed, read_on}
 use Rattle.log_reader.proofs.Entries.{Inside, entry_inside, entries_at}
 
 -- model's entries from a reader's place on
@@ -23,14 +22,14 @@ pub from_the_start : (log : Bor (List ℕ)) → entries_from (started log) ≡ e
 from_the_start log = refl
 
 -- one reader on
-pub read_one : (r : LogReader) → entries_from r ≡ then_entries r.log.now (entry_here r) (entries_from (passed r))
-read_one r = entries_at r.log.now r.at
+pub read_one : (r : LogReader) → entries_from r ≡ then_entries (entry_here r) (entries_from (passed r))
+read_one r = entries_at r.log r.at
 
 -- at a broken entry and at the end the reader past the entry is the reader itself
-pub stays_at_broken : (r : LogReader) → entry_here r ≡ Broken → passed r ≡ r
+pub stays_at_broken : (r : LogReader) → entry_here r ≡ Some (Err (record {})) → passed r ≡ r
 stays_at_broken r e = ap (λ entry. record { log = r.log; at = past_entry r.at entry }) e
 
-pub stays_at_end : (r : LogReader) → entry_here r ≡ End → passed r ≡ r
+pub stays_at_end : (r : LogReader) → entry_here r ≡ None → passed r ≡ r
 stays_at_end r e = ap (λ entry. record { log = r.log; at = past_entry r.at entry }) e
 
 -- a chain of readers from r, long enough for the bytes that are left: by the entry at r, where a shorter chain is known to be right
@@ -38,17 +37,14 @@ module _ (readers : ℕ) (r : LogReader)
     (shorter : (on : LogReader) → length on.log.now - on.at ≤ readers → read_on readers on ≡ entries_from on)
   where
     -- the reader past this entry
-    abbrev beyond : Entry → LogReader
+    abbrev beyond : Placed → LogReader
     beyond entry = record { log = r.log; at = past_entry r.at entry }
 
-    chain_by : (entry : Entry) → Inside r.log.now r.at entry → length r.log.now - r.at ≤ suc readers →
-        then_entries r.log.now entry (read_on readers (beyond entry))
-        ≡ then_entries r.log.now entry (entries_from (beyond entry))
-    chain_by (Grant g) inside few = ap (then_entries r.log.now (Grant g)) (shorter _ (omega (arith, inside, few)))
-    chain_by (Tick start count) inside few =
-        ap (then_entries r.log.now (Tick start count)) (shorter _ (omega (arith, inside, few)))
-    chain_by Broken inside few = refl
-    chain_by End inside few = refl
+    chain_by : (entry : Placed) → Inside r.log.now r.at entry → length r.log.now - r.at ≤ suc readers →
+        then_entries entry (read_on readers (beyond entry)) ≡ then_entries entry (entries_from (beyond entry))
+    chain_by (Some (Ok entry)) inside few = ap (then_entries (Some (Ok entry))) (shorter _ (omega (arith, inside, few)))
+    chain_by (Some (Err broken)) inside few = refl
+    chain_by None inside few = refl
 
 chain_from : (readers : ℕ) (r : LogReader) → length r.log.now - r.at ≤ readers → read_on readers r ≡ entries_from r
 unfolding read_on entries entries_up_to
@@ -56,7 +52,7 @@ chain_from zero r few =
     let past_all : length r.log.now ≤ r.at = omega (arith, few) in
     rw (drop_of_length-le r.log.now past_all)
 chain_from (suc readers) r few =
-    chain_by readers r (chain_from readers) (entry_here r) (entry_inside r.log.now r.at) few ∙ sym (read_one r)
+    chain_by readers r (chain_from readers) (entry_here r) (entry_inside r.log r.at) few ∙ sym (read_one r)
 
 -- "Entries are read one after the other from the same lent bytes": the calls that a chain of readers from the log's start hands out are
 -- those of model's entries, and it ends broken where they do; every entry takes a byte or more, so a reader a byte is enough

@@ -2,46 +2,26 @@
 #![tactic(auto)]
 
 ghost use Rattle.std.specs.Prelude.{◌≡◌};
-ghost use Rattle.log_reader.specs.Reading.{entry_of, past, started, entry_here, passed};
+ghost use Rattle.log_reader.specs.Reading.{started, broken_number, Reads};
 
-// What stands at a place of a log: a grant's count; a tick's choices, as where they start and how many they are; an entry that is not
-// whole; or nothing more.
+use refusals::Refusal;
+
+// A whole entry: a grant's count, or a tick's choices, which are the lent bytes themselves.
 #[derive(Clone, Copy)]
-pub enum Entry {
+pub enum Entry<'a> {
     Grant(u8),
-    Tick(usize, usize),
-    Broken,
-    End,
+    Tick(&'a [u8]),
 }
 
-// The entry at a place.
-pub fn entry_at(log: &[u8], at: usize) -> Entry
-    ensures { result ≡ entry_of log.now at }
-{
-    if at >= log.len() {
-        return Entry::End;
-    }
-    let byte = log[at];
-    if byte < 128 {
-        return Entry::Grant(byte);
-    }
-    let count = (byte - 128) as usize;
-    let start = at + 1;
-    if count > log.len() - start {
-        return Entry::Broken;
-    }
-    Entry::Tick(start, count)
-}
+// An entry that announces more choices than there are bytes.
+#[derive(Clone, Copy, Debug, PartialEq, Eq)]
+pub struct BrokenEntry;
 
-// The place past the entry at a place. A broken entry and the log's end are not passed: the place stays.
-pub fn past_at(log: &[u8], at: usize) -> usize
-    ensures { result ≡ past log.now at }
-{
-    match entry_at(log, at) {
-        Entry::Grant(_) => at + 1,
-        Entry::Tick(start, count) => start + count,
-        Entry::Broken => at,
-        Entry::End => at,
+impl Refusal for BrokenEntry {
+    ghost number = { broken_number };
+
+    fn number(self) -> u8 {
+        18
     }
 }
 
@@ -52,38 +32,36 @@ pub struct LogReader<'a> {
     pub at: usize,
 }
 
-// A reader at the log's start.
-pub fn reader<'a>(log: &'a [u8]) -> LogReader<'a>
-    ensures { result ≡ started log.entry }
-{
-    LogReader { log, at: 0 }
+impl<'a> LogReader<'a> {
+    // A reader at the log's start.
+    pub fn new(log: &'a [u8]) -> LogReader<'a>
+        ensures { result ≡ started log.entry }
+    {
+        LogReader { log, at: 0 }
+    }
 }
 
-// The entry at the reader's place.
-pub fn next_entry<'a>(r: LogReader<'a>) -> Entry
-    ensures { result ≡ entry_here r.entry }
-{
-    entry_at(r.log, r.at)
-}
+// The entry at the reader's place, past which the reader goes. At a broken entry and at the end it stays, and a further call answers the
+// same; so a loop over a log that is broken ends at its first error.
+impl<'a> Iterator for LogReader<'a> {
+    type Item = Result<Entry<'a>, BrokenEntry>;
 
-// The reader past that entry, on the same lent bytes. At a broken entry and at the end it is the reader that it was.
-pub fn past_entry<'a>(r: LogReader<'a>) -> LogReader<'a>
-    ensures { result ≡ passed r.entry }
-{
-    let at = past_at(r.log, r.at);
-    LogReader { log: r.log, at }
-}
+    ghost next_gives = { Reads };
 
-// A function with a loop holds no reader, only its place. The place of a reader at the log's start.
-pub fn first_place(log: &[u8]) -> usize
-    ensures { result ≡ 0 }
-{
-    reader(log).at
-}
-
-// The entry of a reader at this place.
-pub fn read_entry(log: &[u8], at: usize) -> Entry
-    ensures { result ≡ entry_of log.now at }
-{
-    next_entry(LogReader { log, at })
+    fn next(&mut self) -> Option<Result<Entry<'a>, BrokenEntry>> {
+        let log = self.log;
+        let byte = *log.get(self.at)?;
+        let start = self.at + 1;
+        if byte < 128 {
+            self.at = start;
+            return Some(Ok(Entry::Grant(byte)));
+        }
+        let count = usize::from(byte - 128);
+        if count > log.len() - start {
+            return Some(Err(BrokenEntry));
+        }
+        let end = start + count;
+        self.at = end;
+        Some(Ok(Entry::Tick(&log[start..end])))
+    }
 }
