@@ -59,7 +59,7 @@ module _ (log : Bor (List ℕ)) (at byte : ℕ) where
 
   tick_begun : (whole : Bool) → leb (byte - 128) (length log.now - (at + 1)) ≡ whole →
       cond whole (entry_then (ticks (take (byte - 128) after)) (entries (drop (byte - 128) after))) (record { calls = []; broken = true })
-      ≡ from_here log.now at (cond whole (Some (Ok (Tick (lent_part log (at + 1) (byte - 128))))) (Some (Err (record {}))))
+      ≡ from_here log.now at (cond whole (Ok (Some (Tick (lent_part log (at + 1) (byte - 128))))) (Err (record {})))
   tick_begun true e =
       let there = leb-true (byte - 128) (length log.now - (at + 1)) e in
       let long : length (take (byte - 128) after) ≡ byte - 128 =
@@ -80,7 +80,7 @@ first_byte log at h = rw (add-one, drop-cons log at 0)
 -- by whether there is a byte
 at_place : (log : Bor (List ℕ)) (at : ℕ) (more : Bool) → ltb at (length log.now) ≡ more →
     entries (drop at log.now)
-    ≡ from_here log.now at (cond more (begun_by log (get_or log.now at 0) (at + 1) (length log.now - (at + 1))) None)
+    ≡ from_here log.now at (cond more (begun_by log (get_or log.now at 0) (at + 1) (length log.now - (at + 1))) (Ok None))
 unfolding entries entries_up_to
 at_place log at true e =
     ap entries (first_byte log.now at (ltb-true at (length log.now) e))
@@ -98,15 +98,15 @@ entries_at log at = at_place log at (ltb at (length log.now)) refl
 
 -- a call's entry is inside the log
 abbrev pub Inside : List ℕ → ℕ → Placed → Type 0
-Inside log at (Some (Ok entry)) = (at < past_entry at (Some (Ok entry))) × (past_entry at (Some (Ok entry)) ≤ length log)
-Inside log at (Some (Err broken)) = Unit
-Inside log at None = Unit
+Inside log at (Ok (Some entry)) = (at < past_entry at (Ok (Some entry))) × (past_entry at (Ok (Some entry)) ≤ length log)
+Inside log at (Err broken) = Unit
+Inside log at (Ok None) = Unit
 
 begun_inside : (log : Bor (List ℕ)) (at byte : ℕ) (is_grant whole : Bool) → at < length log.now →
     leb (byte - 128) (length log.now - (at + 1)) ≡ whole →
     Inside log.now at
-    (cond is_grant (Some (Ok (Grant byte)))
-    (cond whole (Some (Ok (Tick (lent_part log (at + 1) (byte - 128))))) (Some (Err (record {})))))
+    (cond is_grant (Ok (Some (Grant byte)))
+    (cond whole (Ok (Some (Tick (lent_part log (at + 1) (byte - 128))))) (Err (record {}))))
 begun_inside log at byte true whole h e = (omega arith, omega (arith, h))
 begun_inside log at byte false true h e =
     let there = leb-true (byte - 128) (length log.now - (at + 1)) e in
@@ -116,7 +116,7 @@ begun_inside log at byte false true h e =
 begun_inside log at byte false false h e = tt
 
 place_inside : (log : Bor (List ℕ)) (at : ℕ) (more : Bool) → ltb at (length log.now) ≡ more →
-    Inside log.now at (cond more (begun_by log (get_or log.now at 0) (at + 1) (length log.now - (at + 1))) None)
+    Inside log.now at (cond more (begun_by log (get_or log.now at 0) (at + 1) (length log.now - (at + 1))) (Ok None))
 place_inside log at true e =
     begun_inside log at (get_or log.now at 0) (ltb (get_or log.now at 0) 128) _ (ltb-true at (length log.now) e) refl
 place_inside log at false e = tt
@@ -142,5 +142,5 @@ module _ {r r' : LogReader} {placed : Placed} (step : Reads r placed r') where
   entries_read = entries_at r.log r.at ∙ (rw (here, ← place) refl)
 
 -- a call's entry is inside the log
-pub call_inside : {r r' : LogReader} {entry : Entry} → Reads r (Some (Ok entry)) r' → (r.at < r'.at) × (r'.at ≤ length r.log.now)
+pub call_inside : {r r' : LogReader} {entry : Entry} → Reads r (Ok (Some entry)) r' → (r.at < r'.at) × (r'.at ≤ length r.log.now)
 call_inside {r} step = rw (place step) (rw (here step) at (entry_inside r.log r.at))

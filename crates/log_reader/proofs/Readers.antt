@@ -26,10 +26,10 @@ pub read_one : (r : LogReader) → entries_from r ≡ then_entries (entry_here r
 read_one r = entries_at r.log r.at
 
 -- at a broken entry and at the end the reader past the entry is the reader itself
-pub stays_at_broken : (r : LogReader) → entry_here r ≡ Some (Err (record {})) → passed r ≡ r
+pub stays_at_broken : (r : LogReader) → entry_here r ≡ Err (record {}) → passed r ≡ r
 stays_at_broken r e = ap (λ entry. record { log = r.log; at = past_entry r.at entry }) e
 
-pub stays_at_end : (r : LogReader) → entry_here r ≡ None → passed r ≡ r
+pub stays_at_end : (r : LogReader) → entry_here r ≡ Ok None → passed r ≡ r
 stays_at_end r e = ap (λ entry. record { log = r.log; at = past_entry r.at entry }) e
 
 -- a chain of readers from r, long enough for the bytes that are left: by the entry at r, where a shorter chain is known to be right
@@ -42,9 +42,9 @@ module _ (readers : ℕ) (r : LogReader)
 
     chain_by : (entry : Placed) → Inside r.log.now r.at entry → length r.log.now - r.at ≤ suc readers →
         then_entries entry (read_on readers (beyond entry)) ≡ then_entries entry (entries_from (beyond entry))
-    chain_by (Some (Ok entry)) inside few = ap (then_entries (Some (Ok entry))) (shorter _ (omega (arith, inside, few)))
-    chain_by (Some (Err broken)) inside few = refl
-    chain_by None inside few = refl
+    chain_by (Ok (Some entry)) inside few = ap (then_entries (Ok (Some entry))) (shorter _ (omega (arith, inside, few)))
+    chain_by (Err broken) inside few = refl
+    chain_by (Ok None) inside few = refl
 
 chain_from : (readers : ℕ) (r : LogReader) → length r.log.now - r.at ≤ readers → read_on readers r ≡ entries_from r
 unfolding read_on entries entries_up_to

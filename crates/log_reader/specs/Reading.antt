@@ -15,7 +15,7 @@ broken_number broken = 18
 
 -- what stands at a place: an entry, one that is not whole, or nothing more
 abbrev pub Placed : Type 0
-Placed = Option (Result Entry BrokenEntry)
+Placed = Result (Option Entry) BrokenEntry
 
 -- so many of the lent bytes themselves, from a place on
 abbrev pub lent_part : Bor (List ℕ) → ℕ → ℕ → Bor (List ℕ)
@@ -25,19 +25,19 @@ lent_part log start count =
 -- the entry that a first byte begins, with so many bytes after it; `start` is the place of the byte after the first
 abbrev pub begun_by : Bor (List ℕ) → ℕ → ℕ → ℕ → Placed
 begun_by log byte start left =
-    cond (ltb byte 128) (Some (Ok (Grant byte)))
-    (cond (leb (byte - 128) left) (Some (Ok (Tick (lent_part log start (byte - 128))))) (Some (Err (record {}))))
+    cond (ltb byte 128) (Ok (Some (Grant byte)))
+    (cond (leb (byte - 128) left) (Ok (Some (Tick (lent_part log start (byte - 128))))) (Err (record {})))
 
 unfoldable pub entry_of : Bor (List ℕ) → ℕ → Placed
 entry_of log at =
-    cond (ltb at (length log.now)) (begun_by log (get_or log.now at 0) (at + 1) (length log.now - (at + 1))) None
+    cond (ltb at (length log.now)) (begun_by log (get_or log.now at 0) (at + 1) (length log.now - (at + 1))) (Ok None)
 
 -- the place past an entry that stands at `at`: past a grant's byte; past a tick's choices; a broken entry and the log's end are not passed
 abbrev pub past_entry : ℕ → Placed → ℕ
-past_entry at (Some (Ok (Grant g))) = at + 1
-past_entry at (Some (Ok (Tick choices))) = at + 1 + length choices.now
-past_entry at (Some (Err broken)) = at
-past_entry at None = at
+past_entry at (Ok (Some (Grant g))) = at + 1
+past_entry at (Ok (Some (Tick choices))) = at + 1 + length choices.now
+past_entry at (Err broken) = at
+past_entry at (Ok None) = at
 
 -- the place past the entry at a place
 abbrev pub past : Bor (List ℕ) → ℕ → ℕ
@@ -50,9 +50,9 @@ call_of (Tick choices) = ticks choices.now
 
 -- what an entry is of model's entries: a call, and then the entries after it; or the end, broken or not
 abbrev pub then_entries : Placed → Entries → Entries
-then_entries (Some (Ok entry)) after = entry_then (call_of entry) after
-then_entries (Some (Err broken)) after = record { calls = []; broken = true }
-then_entries None after = record { calls = []; broken = false }
+then_entries (Ok (Some entry)) after = entry_then (call_of entry) after
+then_entries (Err broken) after = record { calls = []; broken = true }
+then_entries (Ok None) after = record { calls = []; broken = false }
 
 -- ---- a reader: lent bytes and a place
 
@@ -68,7 +68,7 @@ entry_here r = entry_of r.log r.at
 abbrev pub passed : LogReader → LogReader
 passed r = record { log = r.log; at = past r.log r.at }
 
--- one call of `next`: the entry at the reader's place, and the reader past it
+-- one call: the entry at the reader's place, and the reader past it
 pub record Reads (r : LogReader) (entry : Placed) (r' : LogReader) : Type 0 where
   pub read : entry ≡ entry_here r
   pub left : r' ≡ passed r

@@ -39,29 +39,29 @@ impl<'a> LogReader<'a> {
     {
         LogReader { log, at: 0 }
     }
-}
 
-// The entry at the reader's place, past which the reader goes. At a broken entry and at the end it stays, and a further call answers the
-// same; so a loop over a log that is broken ends at its first error.
-impl<'a> Iterator for LogReader<'a> {
-    type Item = Result<Entry<'a>, BrokenEntry>;
-
-    ghost next_gives = { Reads };
-
-    fn next(&mut self) -> Option<Result<Entry<'a>, BrokenEntry>> {
+    // The entry at the reader's place, past which the reader goes; or none, at the log's end. At the end and at a broken entry the reader
+    // stays, and a further call answers the same.
+    // It is no `Iterator`: (a) a reader that stays gives its error again and again, and a loop over an iterator has to be known to end.
+    pub fn next_entry(&mut self) -> Result<Option<Entry<'a>>, BrokenEntry>
+        ensures { Reads self.old result self.new }
+    {
         let log = self.log;
-        let byte = *log.get(self.at)?;
+        let Some(first) = log.get(self.at) else {
+            return Ok(None);
+        };
+        let byte = *first;
         let start = self.at + 1;
         if byte < 128 {
             self.at = start;
-            return Some(Ok(Entry::Grant(byte)));
+            return Ok(Some(Entry::Grant(byte)));
         }
         let count = usize::from(byte - 128);
         if count > log.len() - start {
-            return Some(Err(BrokenEntry));
+            return Err(BrokenEntry);
         }
         let end = start + count;
         self.at = end;
-        Some(Ok(Entry::Tick(&log[start..end])))
+        Ok(Some(Entry::Tick(&log[start..end])))
     }
 }
