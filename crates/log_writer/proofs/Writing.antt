@@ -3,17 +3,18 @@
 -- Assumes nothing.
 use mathlib.Core.Path.{◌≡◌, refl, sym, ap, ◌∙◌}
 use mathlib.Core.Bool.{Bool, true, false, cond}
-use mathlib.Core.List.{List, [], ◌∷◌, ◌++◌}
+use mathlib.Core.List.{List, [], ◌∷◌, ◌++◌, append_assoc}
 use Prim.Native.Nat.{ℕ, ◌+◌, ◌≤◌, ◌<◌}
 use native.Mathlib.Numerals.{add-one}
 use native.Mathlib.Omega.{arith}
 use lib.Dec.{leb, ltb}
-use lib.ListN.{length, take, drop, set, length-append}
-use lib.Seq.{sets, sets-eq, length-sets, length-take-le, take_at}
+use lib.ListN.{length, take, drop, set, length-append, length-set}
+use lib.Seq.{drop-drop, sets, sets-eq, length-sets, length-take-le, take_at}
+use borrow.Rule.Slice.PartMut.{put_mid}
 use borrow.Author.Tests.{le-leb, lt-leb, leb-true, ltb-true}
 use Rattle.model.specs.Tests.{every}
 use Rattle.model.specs.Questions.{Question, Answer, accepted, refused, ask, first_no, answer_number}
-use Rattle.model.specs.Log.{append_answer}
+use Rattle.model.specs.Log.{append_answer, tick_sayable}
 use Rattle.lists.proofs.Tests.{and_left, and_right}
 use Rattle.lists.proofs.Lists.{every_append}
 use Rattle.lists.proofs.Questions.{and_then, first_no_append, second_accepted, ask_accepted}
@@ -32,36 +33,50 @@ module _ (questions : List Question) (entry buffer : List ℕ) (size : ℕ) wher
   refusal : {n : ℕ} → append_answer questions entry buffer size ≡ refused n → Writes questions entry buffer size buffer size n
   refusal is = record { answered = rw is refl; left = rw is refl; counted = rw is refl }
 
-  pub no_room : first_no questions ≡ accepted → length buffer < size + length entry → Writes questions entry buffer size buffer size 20
-  unfolding first_no
-  no_room passed short = refusal (room_asked passed ∙ rw (lt-leb (size + length entry) (length buffer) short) refl)
+  -- no room is told, where the entry has none
+  pub no_room : {n : ℕ} → first_no questions ≡ accepted → refused n ≡ room_answer → Writes questions entry buffer size buffer size n
+  no_room passed full = refusal (room_asked passed ∙ sym full)
+
+  pub room_there : accepted ≡ room_answer → size + length entry ≤ length buffer
+  room_there there = leb-true _ _ (ask_accepted (leb (size + length entry) (length buffer)) 20 [] (sym there)).0
 
   has_room : append_answer questions entry buffer size ≡ accepted → size + length entry ≤ length buffer
   unfolding append_answer
-  has_room is =
-      leb-true _ _
-      (ask_accepted (leb (size + length entry) (length buffer)) 20 []
-      (second_accepted (first_no questions) _ (sym (first_no_append questions _) ∙ is))).0
+  has_room is = room_there (sym (second_accepted (first_no questions) _ (sym (first_no_append questions _) ∙ is)))
 
-  pub written : first_no questions ≡ accepted → size + length entry ≤ length buffer → {buffer' : List ℕ} {size' : ℕ} →
+  pub written : first_no questions ≡ accepted → accepted ≡ room_answer → {buffer' : List ℕ} {size' : ℕ} →
       buffer' ≡ sets buffer size entry → size' ≡ size + length entry → Writes questions entry buffer size buffer' size' 0
-  unfolding first_no
-  written passed room stored counted =
-      let is : append_answer questions entry buffer size ≡ accepted =
-      room_asked passed ∙ rw (le-leb (size + length entry) (length buffer) room) refl in
+  written passed there stored counted =
+      let is : append_answer questions entry buffer size ≡ accepted = room_asked passed ∙ sym there in
       record {
         answered = rw is refl;
-        left = rw is (stored ∙ sets-eq entry buffer size room);
+        left = rw is (stored ∙ sets-eq entry buffer size (room_there there));
         counted = rw is counted;
       }
 
--- a tick's entry: its first byte is put, and the choices from the place after it on
+-- bytes that were copied behind one that was put
+put_behind : (first : ℕ) (bytes buffer : List ℕ) (size room : ℕ) → size + 1 + length bytes ≤ length buffer → room ≡ length bytes →
+    put_mid (size + 1) room (set buffer size first) bytes ≡ sets (set buffer size first) (size + 1) bytes
+put_behind first bytes buffer size room there is =
+    let b = set buffer size first in
+    let long : length b ≡ length buffer = length-set buffer size first in
+    sym
+    (sets-eq bytes b (size + 1) (omega (arith, long))
+    ∙ append_assoc (take (size + 1) b) bytes (drop (size + 1 + length bytes) b)
+    ∙ (rw (is, drop-drop (length bytes) (size + 1) b) refl))
+
+-- a tick's entry: its first byte is put, and the choices are copied to the place after it
 pub tick_written : (questions : List Question) (first : ℕ) (choices buffer : List ℕ) (size : ℕ) → first_no questions ≡ accepted →
-    size + 1 + length choices ≤ length buffer → {buffer' : List ℕ} {size' : ℕ} →
-    buffer' ≡ sets (set buffer size first) (size + 1) choices → size' ≡ size + 1 + length choices →
-    Writes questions (first ∷ choices) buffer size buffer' size' 0
-tick_written questions first choices buffer size passed room stored counted =
-    written questions (first ∷ choices) buffer size passed (omega arith) (rw add-one at stored) (omega arith)
+    accepted ≡ room_answer questions (first ∷ choices) buffer size → {copied : List ℕ} {room size' : ℕ} → copied ≡ choices →
+    room ≡ length choices → size' ≡ size + 1 + length choices →
+    Writes questions (first ∷ choices) buffer size (put_mid (size + 1) room (set buffer size first) copied) size' 0
+tick_written questions first choices buffer size passed there {copied} {room} copy is counted =
+    let within = room_there questions (first ∷ choices) buffer size there in
+    let stored : put_mid (size + 1) room (set buffer size first) copied ≡ sets buffer size (first ∷ choices) =
+    ap (put_mid (size + 1) room (set buffer size first)) copy
+    ∙ put_behind first choices buffer size room (omega (arith, within)) is
+    ∙ (rw add-one refl) in
+    written questions (first ∷ choices) buffer size passed there stored (omega (arith, counted))
 
 -- a number that 7 bits cannot say is told first, and one that they can say is let pass
 pub unsayable : (k n : ℕ) (entry buffer : List ℕ) (size : ℕ) → 127 < k → Writes (ask (leb k 127) n ∷ []) entry buffer size buffer size n
@@ -71,6 +86,15 @@ unsayable k n entry buffer size above = refusal (ask (leb k 127) n ∷ []) entry
 pub sayable : (k n : ℕ) → k ≤ 127 → first_no (ask (leb k 127) n ∷ []) ≡ accepted
 unfolding first_no
 sayable k n within = rw (le-leb k 127 within) refl
+
+-- a question that 7 bits always answer need not be asked
+pub always_sayable : (choices entry : List ℕ) {buffer : List ℕ} {size : ℕ} {buffer' : List ℕ} {size' number : ℕ} → length choices ≤ 127 →
+    Writes (tick_sayable choices) entry buffer size buffer' size' number → Writes [] entry buffer size buffer' size' number
+unfolding append_answer first_no
+always_sayable choices entry {buffer} {size} few w =
+    let same : append_answer (tick_sayable choices) entry buffer size ≡ append_answer [] entry buffer size =
+    rw (le-leb (length choices) 127 few) refl in
+    record { answered = rw same at w.answered; left = rw same at w.left; counted = rw same at w.counted }
 
 -- ---- what a reader has of it
 

@@ -1,10 +1,22 @@
 -- What writing an entry promises: the entry behind what is written, or a refusal's number and nothing changed.
-use Rattle.std.specs.Prelude.{◌≡◌, List, ℕ, ◌+◌, length}
-use Rattle.model.specs.Questions.{Question, answer_number, by_answer}
+use Rattle.std.specs.Prelude.{◌≡◌, List, ℕ, ◌+◌, length, Result}
+use Rattle.model.specs.Questions.{Question, Answer, answer_number, by_answer}
 use Rattle.model.specs.Machine.{ticks}
 use Rattle.model.specs.Log.{entry_bytes, append_answer, appended}
 use Rattle.model.specs.Seeds.{draws}
 use Rattle.memory.specs.Words.{numbers_in}
+use Rattle.refusals.specs.Answers.{answer_by}
+use Rattle.log_writer.specs.declared.WriteRefusal.{WriteRefusal}
+use Rattle.log_writer.specs.declared.WriteRefusal.TheVariants.{TooManyWorkers, WrongChoiceCount, NoRoom}
+
+-- the paper's numbers
+abbrev pub refusal_number : WriteRefusal → ℕ
+refusal_number TooManyWorkers = 14
+refusal_number WrongChoiceCount = 16
+refusal_number NoRoom = 20
+
+abbrev pub answer_of : {A : Type 0} → Result A WriteRefusal → Answer
+answer_of answer = answer_by refusal_number answer
 
 -- an entry, asked these questions, was to be appended to this buffer, of which so many bytes were written; that buffer, that size and that
 -- number were left

@@ -2,39 +2,49 @@
 
 // Request U13: entries of the day log, appended to a lent buffer of which the first `size` bytes are written. The definitions are model's
 // specs/Log.antt, and of the drawn choices its specs/Seeds.antt.
-ghost use Rattle.std.specs.Prelude.{◌≡◌, [], ◌+◌, ◌-◌, ◌%◌, ◌/◌, ◌≤◌, ◌<◌, length};
-ghost use Rattle.std.proofs.lemmas.List.Edits.{sets};
+// A buffer and its size are lent side by side: (a) as the C interface lends them.
+ghost use Rattle.std.specs.Prelude.{◌≡◌, [], ◌∷◌, suc, ◌+◌, ◌/◌, ◌%◌, ◌≤◌, ◌<◌, leb, length, take};
+ghost use Rattle.model.specs.Questions.{answer_number, ask, first_no};
 ghost use Rattle.model.specs.Machine.{grants, ticks};
 ghost use Rattle.model.specs.Log.{entry_bytes, grant_sayable, tick_sayable};
 ghost use Rattle.model.specs.Seeds.{draws};
 ghost use Rattle.engine.specs.Reached.{JobWords};
-ghost use Rattle.log_writer.specs.Writing.{Writes, seeded_entry};
+ghost use Rattle.log_writer.specs.Writing.{refusal_number, answer_of, Writes, seeded_entry};
 
 use memory::Words;
+use refusals::Refusal;
 
-// The number where the buffer has no room for the entry.
-const NO_ROOM: u8 = 20;
-
-// How many bytes are left behind the first `size` of a buffer.
-fn room(length: usize, size: usize) -> usize
-    ensures { result ≡ length - size }
-{
-    if size > length {
-        return 0;
-    }
-    length - size
+// Why an entry is not written; refusal_number gives the numbers.
+#[derive(Clone, Copy, Debug, PartialEq, Eq)]
+pub enum WriteRefusal {
+    // More workers than 7 bits can say.
+    TooManyWorkers,
+    // More choices than 7 bits can count.
+    WrongChoiceCount,
+    // The buffer has no room for the entry.
+    NoRoom,
 }
 
-// Puts the choices at `at`, one byte each.
-fn put_choices(choices: &[u8], log: &mut [u8], at: usize)
-    requires { at + length choices.now ≤ length log.old }
-    ensures { log.new ≡ sets log.old at choices.now }
-{
-    let mut i = 0;
-    while i < choices.len() {
-        log[at + i] = choices[i];
-        i += 1;
+impl Refusal for WriteRefusal {
+    ghost number = { refusal_number };
+
+    fn number(self) -> u8 {
+        match self {
+            WriteRefusal::TooManyWorkers => 14,
+            WriteRefusal::WrongChoiceCount => 16,
+            WriteRefusal::NoRoom => 20,
+        }
     }
+}
+
+// Whether a byte and so many more have room behind the first `size` of a buffer.
+fn ask_room(length: usize, size: usize, more: usize) -> Result<(), WriteRefusal>
+    ensures { answer_of result ≡ first_no (ask (leb (size + suc more) length) 20 ∷ []) }
+{
+    if length.saturating_sub(size) <= more {
+        return Err(WriteRefusal::NoRoom);
+    }
+    Ok(())
 }
 
 // The choice that a state gives, as a byte.
@@ -46,71 +56,67 @@ fn choice_byte(s: u32, workers: u32) -> u8
     seed::choice(s, workers) as u8
 }
 
-// Puts as many drawn choices as workers at `at`, one byte each: a draw is the next state, and its choice.
-fn put_draws(workers: u32, seed: u32, log: &mut [u8], at: usize)
-    requires workers_bound { workers ≤ 64 }
-    requires workers_in_bounds { at + workers ≤ length log.old }
-    ensures { log.new ≡ sets log.old at (draws workers workers seed) }
+// A drawn choice for each worker, and 0 behind them: a draw is the next state, and its choice.
+fn drawn(workers: u32, seed: u32) -> [u8; 64]
+    requires { workers ≤ 64 }
+    ensures long { length result ≡ 64 }
+    ensures choices { take workers result ≡ draws workers workers seed }
 {
+    let mut choices = [0u8; 64];
     let mut s = seed;
-    let mut i: u32 = 0;
-    while i < workers {
-        let next = seed::next(s);
-        log[at + i as usize] = choice_byte(next, workers);
-        s = next;
-        i += 1;
+    for i in 0..workers as usize {
+        s = seed::next(s);
+        choices[i] = choice_byte(s, workers);
     }
+    choices
 }
 
 // Appends a grant: its count, where 7 bits can say it, 14.
-pub fn write_grant(workers: u64, log: &mut [u8], size: &mut usize) -> u8
+pub fn write_grant(workers: u64, log: &mut [u8], size: &mut usize) -> Result<(), WriteRefusal>
     ensures { Writes (grant_sayable workers) (entry_bytes (grants workers))
-        log.old size.old log.new size.new result }
+        log.old size.old log.new size.new (answer_number (answer_of result)) }
 {
     if workers > 127 {
-        return 14;
+        return Err(WriteRefusal::TooManyWorkers);
     }
     let at = *size;
-    if at >= log.len() {
-        return NO_ROOM;
-    }
+    ask_room(log.len(), at, 0)?;
     log[at] = workers as u8;
     *size = at + 1;
-    0
+    Ok(())
 }
 
 // Appends a tick: the top bit and the number of its choices, where 7 bits can say it, 16, and then the choices.
-pub fn write_tick(choices: &[u8], log: &mut [u8], size: &mut usize) -> u8
+pub fn write_tick(choices: &[u8], log: &mut [u8], size: &mut usize) -> Result<(), WriteRefusal>
     ensures { Writes (tick_sayable choices.now) (entry_bytes (ticks choices.now))
-        log.old size.old log.new size.new result }
+        log.old size.old log.new size.new (answer_number (answer_of result)) }
 {
     let count = choices.len();
     if count > 127 {
-        return 16;
+        return Err(WriteRefusal::WrongChoiceCount);
     }
     let at = *size;
-    if room(log.len(), at) < count + 1 {
-        return NO_ROOM;
-    }
+    ask_room(log.len(), at, count)?;
+    let start = at + 1;
+    let end = start + count;
     log[at] = 128 + count as u8;
-    put_choices(choices, log, at + 1);
-    *size = at + 1 + count;
-    0
+    log[start..end].copy_from_slice(choices);
+    *size = end;
+    Ok(())
 }
 
-// Appends the tick that the seed gives a job: as many drawn choices as workers are granted.
-pub fn write_seeded(words: &Words, seed: u32, log: &mut [u8], size: &mut usize) -> u8
+// Appends the tick that the seed gives a job: as many drawn choices as workers are granted, which 7 bits can always say.
+pub fn write_seeded(
+    words: &Words,
+    seed: u32,
+    log: &mut [u8],
+    size: &mut usize,
+) -> Result<(), WriteRefusal>
     requires { JobWords words.now }
     ensures { Writes [] (seeded_entry words.now seed)
-        log.old size.old log.new size.new result }
+        log.old size.old log.new size.new (answer_number (answer_of result)) }
 {
-    let workers = words[memory::WORKERS] as usize;
-    let at = *size;
-    if room(log.len(), at) < workers + 1 {
-        return NO_ROOM;
-    }
-    log[at] = 128 + workers as u8;
-    put_draws(workers as u32, seed, log, at + 1);
-    *size = at + 1 + workers;
-    0
+    let workers = words[memory::WORKERS];
+    let choices = drawn(workers as u32, seed);
+    write_tick(&choices[..workers as usize], log, size)
 }
