@@ -1,5 +1,7 @@
 // A job: one array for its graph and its deques, and the words of its numbers. `specs/Parts.antt` says what each part of the memory is,
 // `specs/Words.antt` what each word is, and `specs/Jobs.antt` which plan and which state the two show.
+// Places in two arrays, lent side by side, and no struct of named fields, and flags and the noted offer as words: the C interface lends a
+// job so, and the theorems over a job (`JobWords`, `Moves` of `lent memory words`) speak of these two lists.
 #![tactic(auto)]
 
 // So many numbers has a job's memory, and so many words it has.
