@@ -13,7 +13,7 @@ fn put_digit(buffer: &mut [u8], at: usize, n: u64)
     requires room { at < length buffer.old }
     ensures { buffer.new ≡ sets buffer.old at (digit n) }
 {
-    buffer[at] = 48 + n as u8;
+    buffer[at] = b'0' + n as u8;
 }
 
 // Puts the two digits of a number below 100 at `at`. `both` is (48 + tens) + 256 * (48 + ones), where ones is n - 10 * tens: from one
