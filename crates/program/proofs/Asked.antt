@@ -1,37 +1,23 @@
 -- The questions of the input and of the plan, each as the code asks it.
 -- Assumes nothing.
-use mathlib.Core.Path.{◌≡◌, refl, sym, ap, ◌∙◌}
-use mathlib.Core.Bool.{Bool, true, false}
+use mathlib.Core.Path.{◌≡◌, ap, ◌∙◌}
 use mathlib.Core.List.{List}
 use Prim.Native.Nat.{ℕ, ◌+◌, ◌*◌, ◌-◌, ◌≤◌, ◌<◌}
 use native.Mathlib.Omega.{arith}
 use lib.ListN.{length, take, drop, get_or, length-drop}
 use lib.Seq.{take_all}
 use borrow.Author.Tests.{le-leb, lt-leb}
-use Rattle.model.specs.Questions.{Answer, accepted, refused, answer_number, first_no}
+use Rattle.model.specs.Questions.{Answer, accepted, refused, first_no}
 use Rattle.model.specs.Plan.{number, plan_of, plan_answer}
 use Rattle.model.specs.Program.{plan_length, plan_part, log_part, input_questions, refused_line, log_output, output_by, program}
-use Rattle.plan_fields.specs.Answers.{passes}
-use Rattle.plan_fields.proofs.Answers.{passes_is}
 use Rattle.program.specs.declared.Output.{Output}
 use Rattle.program.specs.Output.{Prints}
 
 -- ---- the plan's answer
 
--- a refusal's line, by its number
-refused_text : (a : Answer) (output : List ℕ) → passes a ≡ false → refused_line (answer_number a) ≡ output_by a output
-refused_text accepted output e = cc
-refused_text (refused n) output e = refl
-
--- what the code has of the plan's answer
-module _ (a x : Answer) (passed : Bool) (same : a ≡ x) (test : passed ≡ passes a) where
-  pub refused_plan : (n : ℕ) (output : List ℕ) (r : Output) → passed ≡ false → n ≡ answer_number a → Prints (refused_line n) r
-      → Prints (output_by x output) r
-  refused_plan n output r fails number_is p =
-      rw (number_is, refused_text a output (sym test ∙ fails), same) at p
-
-  pub accepted_plan : passed ≡ true → x ≡ accepted
-  accepted_plan passes_it = sym same ∙ passes_is a (sym test ∙ passes_it)
+pub refused_plan : {x : Answer} {k : ℕ} → refused k ≡ x → (n : ℕ) (output : List ℕ) (r : Output) → n ≡ k → Prints (refused_line n) r
+    → Prints (output_by x output) r
+refused_plan same n output r number_is p = rw (← same) (rw number_is at p)
 
 pub after_plan : (x : Answer) (output : List ℕ) (r : Output) → x ≡ accepted → Prints output r → Prints (output_by x output) r
 after_plan x output r e p = rw e p

@@ -11,6 +11,7 @@ ghost use Rattle.program.specs.Output.{Prints, LinePut, PrintsRan};
 use counters::Counters;
 use day_log::LogAnswer;
 use memory::Words;
+use refusals::Refusal;
 
 // What is printed: the first `size` of the bytes. The longest output is a counters line and `refused 18`, 138 bytes.
 #[derive(Clone, Copy)]
@@ -88,8 +89,8 @@ fn plan_output(plan: &[u8], log: &[u8]) -> Output
     let mut memory = [0u16; memory::MEMORY_SIZE];
     let mut words = [0u64; memory::WORD_COUNT];
     let answer = engine::accept(plan, &mut memory, &mut words);
-    if !plan_fields::passed(answer) {
-        return refusal(plan_fields::number(answer));
+    if let Err(refused) = answer {
+        return refusal(refused.number());
     }
     let mut refusals = 0u64;
     let ran = day_log::run(&mut memory, &mut words, log, &mut refusals);

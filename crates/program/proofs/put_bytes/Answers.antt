@@ -1,6 +1,5 @@
 -- `program::put_bytes` meets its contract. The loop's invariant: the bytes before the index are copied. Assumes nothing.
 use mathlib.Core.Path.{ap, ◌∙◌}
-use Prim.Native.Nat.{◌-◌}
 use native.Mathlib.Omega.{arith}
 use lib.Seq.{sets, take_all}
 use Rattle.program.proofs.Printing.{copied_length, copied_more}
