@@ -8,7 +8,8 @@ ghost use Rattle.work.specs.Works.{WorkTurn, LastTick, Worked};
 use memory::{Deque, Memory};
 
 // The front task of the worker's deque, one of so many there, had its last tick: it leaves, and its successors that became ready take its
-// place. A task with one successor comes first: where that one became ready, it is the new front and the size stays.
+// place. A task with one successor comes first: where that one became ready, it is the new front and the size stays. Each way out stores
+// what it changes and no more, in place: this is where most of a tick's time goes.
 #[tactic(auto, using(crate::proofs::Working::completion_in_place))]
 fn complete(memory: &mut Memory, w: usize, task: usize, size: u16)
     requires { (p : Parts) × ((m : Numbers) × LastTick p m w task size (parts memory.old)) }
@@ -55,7 +56,7 @@ fn complete(memory: &mut Memory, w: usize, task: usize, size: u16)
 }
 
 // A work cycle takes one tick off the front task of the worker's deque. The task stays in front until its last tick, which completes it:
-// then the answer is 1, and else 0.
+// then the answer is 1, and else 0: a number and no bool, since the count of the tick's completed tasks adds it with no test.
 #[tactic(auto, using(crate::proofs::Working::tick_in_place))]
 pub fn work_cycle(memory: &mut Memory, w: usize) -> u64
     requires { (m : Numbers) × WorkTurn (parts memory.old) m w }
