@@ -4,7 +4,7 @@
 ghost use Rattle.std.specs.Prelude.{◌≡◌, ◌*◌, ◌/◌, ◌%◌, ◌^◌, ◌<◌};
 ghost use Rattle.model.specs.Seeds.{next_seed};
 
-// a × b, wrapped modulo 2^32.
+// a × b, wrapped modulo 2^32: the wrapped product is the core's own function, the wrapped sum the library's, as document 01 has them.
 pub fn wrapping_mul_u32(a: u32, b: u32) -> u32
     ensures { result ≡ a * b % 2 ^ 32 }
 {

@@ -17,7 +17,7 @@ pub struct Tally {
 }
 
 impl Tally {
-    // One work cycle more, and so many tasks that it completed, 1 or 0.
+    // One work cycle more, and so many tasks that it completed: 1 or 0, a number, since it is added faster than a flag is asked.
     pub fn with_work(self, completed: u64) -> Tally
         requires growing { Growing self }
         requires one_at_most { completed ≤ 1 }
@@ -42,8 +42,8 @@ impl Tally {
         }
     }
 
-    // The words take what so many cycles with this tally add: those that are neither work nor mug cycles are steal cycles. Each mug took one
-    // of the muggable deques; where there was none, nothing of the ring is written.
+    // The words take what so many cycles with this tally add: those that are neither work nor mug cycles are steal cycles. Each mug took
+    // one of the muggable deques; where there was none, nothing of the ring is written.
     pub fn settle(self, words: &mut Words, cycles: usize)
         requires { Addable words.old cycles self }
         ensures { Settled words.old cycles self words.new }
