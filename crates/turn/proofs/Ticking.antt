@@ -69,14 +69,10 @@ room_grown r f h = search rules
 
 words_then : {words words' words'' : List ℕ} → SameButSuccesses words words' → SameButSuccesses words' words'' →
     SameButSuccesses words words''
-words_then f g =
-    record {
-      same_length = g.same_length ∙ f.same_length;
-      same_others = λ place ne. g.same_others place ne ∙ f.same_others place ne;
-    }
+words_then f g = search rules
 
 words_tail : {words words' : List ℕ} → SameButSuccesses words words' → SameTail words words'
-words_tail f = record { same_length = f.same_length; same_from = λ place h. f.same_others place (λ e. omega arith) }
+words_tail f = search rules
 
 -- ---- a tick under way
 
@@ -125,17 +121,18 @@ module _ {memory words choices : List ℕ} (tick : TickTurn memory words choices
     e = view (parts memory') m'
 
     -- the tally can be added
-    pub addable : Addable words' i t
-    addable =
+    pub addable : {n : ℕ} → i ≡ n → Addable words' n t
+    addable over =
         let same = u.same_words.same_others in
-        record {
+        rw (← over)
+        (record {
           size = u.same_words.same_length ∙ tick.size;
           done_fits = omega (arith, done_at_most (parts memory') m' u.sound.kept.done_right, u.sound.few_tasks);
           waited = omega (arith, u.mugged, same 9 (λ e. omega arith), same 4 (λ e. omega arith));
           head_in_ring = rw (same 8 (λ e. omega arith)) tick.sound.kept.head_in_ring;
           counted = omega (arith, u.counted);
           room = room_grown tick.room u.grown (omega (arith, u.part, tick.one_each, few_workers));
-        }
+        })
 
     -- all workers have had their cycle, and the tally was added
     pub tick_over : {n : ℕ} {words'' : List ℕ} → i ≡ n → n ≡ (numbers_in words).workers → Settled words' n t words'' →
@@ -210,7 +207,7 @@ module _ {memory words choices : List ℕ} (tick : TickTurn memory words choices
       -- it is empty
       module _ {choice : ℕ} (chosen : choice ≡ get_or choices i 0) where
         pub idle_turn : {own : Deque} → own ≡ ends_at (parts memory').ends i → own.size ≤ 0 → IdleTurn memory' words' i choice t
-        idle_turn reads none = record { turn = rw chosen next_turn; empty = omega (arith, rw reads at none); addable = addable }
+        idle_turn reads none = record { turn = rw chosen next_turn; empty = omega (arith, rw reads at none); addable = addable refl }
 
         pub onward_idle : {memory'' words'' : List ℕ} {t'' : Tally} → Idled memory' words' i choice t memory'' words'' t'' →
             Underway memory words choices memory'' words'' t'' (i + 1)

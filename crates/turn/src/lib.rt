@@ -73,16 +73,17 @@ pub fn idle_cycle(
     t
 }
 
-// The cycles of a tick, with choices of whatever kind: the workers in number order, one cycle each. A worker whose deque is not empty works.
-// Once the job is finished no task stands anywhere, so the workers after the finisher count a steal in vain each, whatever their choices.
+// The cycles of a tick, with choices of whatever kind: the workers in number order, one cycle each. A worker whose deque is not empty
+// works. Once the job is finished no task stands anywhere, so the workers after the finisher count a steal in vain each, whatever their
+// choices.
 pub fn cycles_by<C: Chooser>(
     memory: &mut Memory,
     words: &mut Words,
     workers: usize,
     chooser: C,
 ) -> C
-    requires turn { TickTurn memory.old words.old (C.choices chooser workers) }
     requires granted { workers ≡ (numbers_in words.old).workers }
+    requires turn { TickTurn memory.old words.old (C.choices chooser workers) }
     ensures ticked { Ticked memory.old words.old (C.choices chooser workers) memory.new words.new }
     ensures afterwards { result ≡ C.after chooser workers }
 {

@@ -1,5 +1,5 @@
 -- `turn::cycles_by` meets its contract: each worker's cycle is what Ticking says of it.
-use Rattle.std.proofs.Common.{◌≡◌, ◌∙◌, arith, rules}
+use Rattle.std.proofs.Common.{◌≡◌, refl, ◌∙◌, arith, rules}
 use Rattle.tally.specs.Tallies.{no_tally}
 use Rattle.tally.proofs.Tallying.{growing}
 use Rattle.turn.proofs.Ticking.{begin, few_workers, addable, tick_over, work_turn, idle_turn, onward_work, onward_idle}
@@ -25,7 +25,7 @@ with_work-t-requires g c =
     let u = c.loop-w.invariant.underway in
     let turn = work_turn c.requires.turn u (omega arith) c.deque_at-size.ensures c.if-size-gt0.true in
     record {
-      growing = growing (addable c.requires.turn u);
+      growing = growing (addable c.requires.turn u refl);
       one_at_most = (c.work_cycle-completed.ensures _ turn).one_at_most;
     }
 
@@ -45,7 +45,8 @@ loop-w-preserved g c =
           elim c.if-size-gt0.branch [
             | then-size-gt0 w ↦
                 rw (w.memory-is, w.words-is, w.t-is)
-                (onward_work tick u (omega arith) c.deque_at-size.ensures w.if-size-gt0.true (w.work_cycle-completed.ensures _) w.with_work-t.ensures)
+                (onward_work tick u (omega arith) c.deque_at-size.ensures w.if-size-gt0.true (w.work_cycle-completed.ensures _)
+                w.with_work-t.ensures)
             | else-size-gt0 w ↦
                 rw (w.memory-is, w.words-is, w.t-is)
                 (onward_idle tick u (omega arith) (w.choice-choice.ensures c.args.chooser came) w.idle_cycle-t.ensures)
@@ -58,7 +59,7 @@ loop-w-preserved g c =
 pub settle-requires : goal.settle-requires
 settle-requires g c =
     let over : c.loop-w.w ≡ c.args.workers = omega arith in
-    rw (← over) (addable c.requires.turn c.loop-w.invariant.underway)
+    addable c.requires.turn c.loop-w.invariant.underway over
 
 pub returns-clause-ticked : goal.returns-clause-ticked
 returns-clause-ticked g c =
