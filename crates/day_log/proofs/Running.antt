@@ -2,7 +2,7 @@
 -- the log ends.
 -- Assumes nothing.
 use mathlib.Core.Path.{◌≡◌, refl, sym, ap, ◌∙◌}
-use mathlib.Core.Bool.{Bool, cond}
+use mathlib.Core.Bool.{Bool, true, false, cond}
 use mathlib.Core.List.{List, [], ◌∷◌, ◌++◌, append_assoc, append-nil}
 use Prim.Native.Nat.{ℕ, ◌+◌, ◌≤◌, ◌<◌}
 use native.Mathlib.Omega.{arith}
@@ -15,7 +15,16 @@ use Rattle.memory.specs.declared.Job.{Job}
 use Rattle.memory.specs.Jobs.{job_plan, job_state}
 use Rattle.engine.specs.Reached.{Reached, IsJob}
 use Rattle.engine.specs.Moves.{Moves}
-use Rattle.day_log.specs.declared.LogAnswer.{LogAnswer}
+use mir.Val.{bool_byte}
+use Rattle.std.specs.Prelude.{Option, Some, None, Result, Ok, Err}
+use Rattle.std.specs.Result.{is_err}
+use Rattle.call_questions.specs.declared.CallRefusal.{CallRefusal}
+use Rattle.call_questions.specs.Answers.{answer_of}
+use Rattle.log_reader.specs.declared.BrokenEntry.{BrokenEntry}
+use Rattle.log_reader.specs.declared.Entry.{Entry}
+use Rattle.log_reader.specs.declared.LogReader.{LogReader}
+use Rattle.log_reader.specs.Reading.{Placed, call_of, then_entries, Reads}
+use Rattle.log_reader.proofs.Entries.{entries_read, call_inside}
 use Rattle.day_log.specs.Running.{log_answer_of, Runs}
 
 -- ---- model's run of one call more
@@ -118,7 +127,7 @@ module _ (log : List ℕ) (job₀ : Job) where
         })
 
     -- the log ends here, with a broken entry or without
-    pub ends_here : (broken : Bool) (answer : LogAnswer) → entries (drop at log) ≡ record { calls = []; broken = broken } →
+    pub ends_here : (broken : Bool) {A : Type 0} (answer : Result A BrokenEntry) → entries (drop at log) ≡ record { calls = []; broken = broken } →
         log_answer_of answer ≡ cond broken (refused 18) accepted →
         (log_answer_of answer ≡ log_answer log) × Runs log job₀ count job
     unfolding run_log log_answer
@@ -136,3 +145,43 @@ module _ (log : List ℕ) (job₀ : Job) where
             untouched = λ refusals. so_far.untouched_so_far (refusals ∙ ap length all);
           },
         )
+
+-- ---- after an entry
+
+-- 1 for a refused call, and 0 for an accepted one
+told_refused : (answer : Result (Unit {0}) CallRefusal) (told : Bool) → told ≡ is_err answer → bool_byte told ≡ refusals_in (answer_of answer)
+told_refused (Ok done) told e = rw e refl
+told_refused (Err refusal) told e = rw e refl
+
+pub at_most_one : (told : Bool) → bool_byte told ≤ 1
+at_most_one true = omega arith
+at_most_one false = omega arith
+
+module _ {log : List ℕ} {job₀ job : Job} {count : ℕ} {r r' : LogReader} (same_log : r.log.now ≡ log)
+    (so_far : SoFar log job₀ job count r.at)
+  where
+    from_here : {placed : Placed} → Reads r placed r' → entries (drop r.at log) ≡ then_entries placed (entries (drop r'.at log))
+    from_here step = rw same_log at (entries_read step)
+
+    module _ {placed : Option Entry} (entry : Entry) (step : Reads r (Ok placed) r') (is : placed ≡ Some entry) where
+      -- a call's entry takes a byte or more, and ends within the log
+      pub inside : (r.at < r'.at) × (r'.at ≤ length log)
+      inside = let read : Reads r (Ok (Some entry)) r' = rw is at step in rw same_log at (call_inside read)
+
+      pub one_entry : {job' : Job} (answer : Result (Unit {0}) CallRefusal) (told : Bool) {more : ℕ} → Moves (call_of entry) job job' →
+          answer_of answer ≡ call_answer (call_of entry) (job_state job) → told ≡ is_err answer → more ≡ bool_byte told →
+          SoFar log job₀ job' (count + more) r'.at
+      one_entry answer told moves answered tells counted =
+          let read : Reads r (Ok (Some entry)) r' = rw is at step in
+          one_more log job₀ so_far (call_of entry) moves (counted ∙ told_refused answer told tells ∙ ap refusals_in answered)
+          (from_here read) inside.0
+
+    pub broken_here : {A : Type 0} (answer : Result A BrokenEntry) (broken : BrokenEntry) → answer ≡ Err broken → Reads r (Err broken) r' →
+        (log_answer_of answer ≡ log_answer log) × Runs log job₀ count job
+    broken_here answer broken told step = ends_here log job₀ so_far true answer (from_here step) (rw told refl)
+
+    pub end_here : {placed : Option Entry} → Reads r (Ok placed) r' → placed ≡ None → (accepted ≡ log_answer log) × Runs log job₀ count job
+    end_here step none =
+        let read : Reads r (Ok None) r' = rw none at step in
+        let whole : Result (Unit {0}) BrokenEntry = Ok tt in
+        ends_here log job₀ so_far false whole (from_here read) refl

@@ -1,19 +1,19 @@
 -- What running a log on a job in place promises. The log's answer stands beside it, as an equation with the model's.
-use Rattle.std.specs.Prelude.{◌≡◌, List, ◌++◌, ℕ, length}
-use Rattle.model.specs.Questions.{Answer, accepted, refused}
+use Rattle.std.specs.Prelude.{◌≡◌, List, ◌++◌, ℕ, length, Result}
+use Rattle.model.specs.Questions.{Answer}
 use Rattle.model.specs.Plan.{Plan}
 use Rattle.model.specs.Machine.{Call}
 use Rattle.model.specs.Log.{Ran, entries, run_log}
 use Rattle.memory.specs.declared.Job.{Job}
 use Rattle.memory.specs.Jobs.{job_plan, job_state}
 use Rattle.engine.specs.Reached.{Reached}
-use Rattle.day_log.specs.declared.LogAnswer.{LogAnswer}
-use Rattle.day_log.specs.declared.LogAnswer.TheVariants.{Whole, BrokenEntry}
+use Rattle.refusals.specs.Answers.{answer_by}
+use Rattle.log_reader.specs.declared.BrokenEntry.{BrokenEntry}
+use Rattle.log_reader.specs.Reading.{broken_number}
 
 -- the paper's number of the log's answer: "Is the entry whole? 18"
-abbrev pub log_answer_of : LogAnswer → Answer
-log_answer_of Whole = accepted
-log_answer_of BrokenEntry = refused 18
+abbrev pub log_answer_of : {A : Type 0} → Result A BrokenEntry → Answer
+log_answer_of answer = answer_by broken_number answer
 
 -- model's run of the log on what the job shows
 abbrev pub run_of : List ℕ → Job → Ran

@@ -1,113 +1,66 @@
 -- `day_log::run` meets its contract: what SoFar says is kept by a grant and by a tick, and at the log's end it is what is promised.
 -- Assumes nothing.
 use native.Mathlib.Omega.{arith}
-use mathlib.Core.Path.{refl, sym, ap, ◌∙◌}
-use mathlib.Core.Bool.{true, false}
-use Rattle.model.specs.Log.{refusals_in}
+use mathlib.Core.Path.{refl, ap, ◌∙◌}
+use Rattle.std.specs.Prelude.{Some}
+use Rattle.std.proofs.lemmas.Result.{err_from_is_err_and}
 use Rattle.call_questions.specs.Answers.{answer_of}
-use Rattle.log_reader.specs.declared.Entry.TheVariants.{Grant, Tick, Broken, End}
-use Rattle.day_log.specs.declared.LogAnswer.TheVariants.{Whole, BrokenEntry}
-use Rattle.log_reader.proofs.Entries.{ReadAt, grant_inside, tick_inside, entries_read, choices_read}
-use Rattle.day_log.proofs.Running.{starts, still_job, few_more, one_more, ends_here}
+use Rattle.log_reader.specs.declared.Entry.TheVariants.{Grant, Tick}
+use Rattle.day_log.proofs.Running.{starts, still_job, at_most_one, inside, one_entry, broken_here, end_here}
 use Rattle.day_log.proofs.run.Goals as goal
+use Rattle.day_log.proofs.run.Goals.{in-Grant, in-Tick}
 
-pub loop-g-init : goal.loop-g-init
-loop-g-init c = rw c.first_place-at.ensures (starts _ _)
-
--- ---- a grant
+pub loop-entry-init : goal.loop-entry-init
+loop-entry-init c = rw c.new-entries.ensures (record { same_log = refl; so_far = starts _ _ })
 
 pub grant-answer-requires : goal.grant-answer-requires
-grant-answer-requires c = still_job _ _ c.loop-g.invariant c.requires
-
-pub overflow_add-count : goal.overflow_add-count
-overflow_add-count c =
-    let read : ReadAt c.args.log.now c.loop-g.at (Grant c.in-Grant.g) = record { is = sym c.read_entry.ensures ∙ c.in-Grant.is } in
-    let few = few_more _ _ c.loop-g.invariant (answer_of c.grant-answer.result) c.refused-count.ensures in
-    omega (arith, few, grant_inside read)
-
-pub overflow_add-at : goal.overflow_add-at
-overflow_add-at c =
-    let read : ReadAt c.args.log.now c.loop-g.at (Grant c.in-Grant.g) = record { is = sym c.read_entry.ensures ∙ c.in-Grant.is } in
-    omega (arith, grant_inside read)
-
-pub loop-g-smaller-in-Grant : goal.loop-g-smaller-in-Grant
-loop-g-smaller-in-Grant c =
-    let read : ReadAt c.args.log.now c.loop-g.at (Grant c.in-Grant.g) = record { is = sym c.read_entry.ensures ∙ c.in-Grant.is } in
-    omega (arith, grant_inside read)
-
-pub loop-g-preserved-in-Grant : goal.loop-g-preserved-in-Grant
-loop-g-preserved-in-Grant c =
-    let read : ReadAt c.args.log.now c.loop-g.at (Grant c.in-Grant.g) = record { is = sym c.read_entry.ensures ∙ c.in-Grant.is } in
-    one_more _ _ c.loop-g.invariant _ c.grant-answer.ensures.moves
-    (c.refused-count.ensures ∙ ap refusals_in c.grant-answer.ensures.answered)
-    (entries_read read)
-    (omega arith)
-
--- ---- a tick
-
-pub overflow_add-past : goal.overflow_add-past
-overflow_add-past c =
-    let read : ReadAt c.args.log.now c.loop-g.at (Tick c.in-Tick.start c.in-Tick.choices) = record {
-      is = sym c.read_entry.ensures ∙ c.in-Tick.is;
-    } in
-    omega (arith, tick_inside read)
-
-pub slice_bounds-tick-start : goal.slice_bounds-tick-start
-slice_bounds-tick-start c =
-    let read : ReadAt c.args.log.now c.loop-g.at (Tick c.in-Tick.start c.in-Tick.choices) = record {
-      is = sym c.read_entry.ensures ∙ c.in-Tick.is;
-    } in
-    omega (arith, tick_inside read)
-
-pub slice_bounds-tick-end : goal.slice_bounds-tick-end
-slice_bounds-tick-end c =
-    let read : ReadAt c.args.log.now c.loop-g.at (Tick c.in-Tick.start c.in-Tick.choices) = record {
-      is = sym c.read_entry.ensures ∙ c.in-Tick.is;
-    } in
-    (tick_inside read).1
+grant-answer-requires c = still_job _ _ c.loop-entry.invariant.so_far c.requires
 
 pub tick-answer-requires : goal.tick-answer-requires
-tick-answer-requires c = still_job _ _ c.loop-g.invariant c.requires
+tick-answer-requires c = still_job _ _ c.loop-entry.invariant.so_far c.requires
 
-pub overflow_add-count-in-Tick : goal.overflow_add-count-in-Tick
-overflow_add-count-in-Tick c =
-    let read : ReadAt c.args.log.now c.loop-g.at (Tick c.in-Tick.start c.in-Tick.choices) = record {
-      is = sym c.read_entry.ensures ∙ c.in-Tick.is;
-    } in
-    let few = few_more _ _ c.loop-g.invariant (answer_of c.tick-answer.result) c.refused-count-in-Tick.ensures in
-    omega (arith, few, tick_inside read)
+pub overflow_add-refusals : goal.overflow_add-refusals
+overflow_add-refusals c =
+    let l = c.loop-entry.invariant in
+    omega (arith, l.so_far.few, at_most_one c.is_err.result, c.from-in-Some.ensures, inside l.same_log l.so_far c.in-Some.entry c.in_ok-entry.ensures c.in-Some.is)
 
-pub loop-g-smaller : goal.loop-g-smaller
-loop-g-smaller c =
-    let read : ReadAt c.args.log.now c.loop-g.at (Tick c.in-Tick.start c.in-Tick.choices) = record {
-      is = sym c.read_entry.ensures ∙ c.in-Tick.is;
-    } in
-    omega (arith, tick_inside read)
+pub loop-entry-smaller : goal.loop-entry-smaller
+loop-entry-smaller c =
+    let l = c.loop-entry.invariant in
+    omega (arith, inside l.same_log l.so_far c.in-Some.entry c.in_ok-entry.ensures c.in-Some.is)
 
-pub loop-g-preserved : goal.loop-g-preserved
-loop-g-preserved c =
-    let read : ReadAt c.args.log.now c.loop-g.at (Tick c.in-Tick.start c.in-Tick.choices) = record {
-      is = sym c.read_entry.ensures ∙ c.in-Tick.is;
-    } in
-    one_more _ _ c.loop-g.invariant _ c.tick-answer.ensures.moves
-    (c.refused-count-in-Tick.ensures ∙ ap refusals_in c.tick-answer.ensures.answered)
-    (choices_read read)
-    (omega (arith, tick_inside read))
+pub loop-entry-preserved : goal.loop-entry-preserved
+loop-entry-preserved c =
+    let l = c.loop-entry.invariant in
+    record {
+      same_log = ap (λ r. r.log.now) c.in_ok-entry.ensures.left ∙ l.same_log;
+      so_far =
+          elim c.match-entry.branch [
+            | in-Grant w ↦
+                let moves = rw w.from.ensures at w.grant-answer.ensures.moves in
+                let answered = rw w.from.ensures at w.grant-answer.ensures.answered in
+                rw (w.memory-is, w.words-is)
+                (one_entry l.same_log l.so_far (Grant w.in-Grant.workers) c.in_ok-entry.ensures (c.in-Some.is ∙ ap Some w.in-Grant.is)
+                _ _ moves (ap answer_of w.answer-is ∙ answered) c.is_err.ensures.value c.from-in-Some.ensures)
+            | in-Tick w ↦
+                rw (w.memory-is, w.words-is)
+                (one_entry l.same_log l.so_far (Tick w.in-Tick.choices) c.in_ok-entry.ensures (c.in-Some.is ∙ ap Some w.in-Tick.is)
+                _ _ w.tick-answer.ensures.moves (ap answer_of w.answer-is ∙ w.tick-answer.ensures.answered) c.is_err.ensures.value
+                c.from-in-Some.ensures)
+          ];
+    }
 
 -- ---- the log's end
 
-pub returns-in-Broken : goal.returns-in-Broken
-returns-in-Broken c =
-    let ended =
-    ends_here _ _ c.loop-g.invariant true BrokenEntry
-    (entries_read {entry = Broken} (record { is = sym c.read_entry.ensures ∙ c.in-Broken.is }))
-    refl in
+pub returns-in_err-entry : goal.returns-in_err-entry
+returns-in_err-entry c =
+    let told = err_from_is_err_and c.from_residual.result c.from_residual.ensures.1 in
+    let l = c.loop-entry.invariant in
+    let ended = broken_here l.same_log l.so_far c.from_residual.result _ told.1 c.in_err-entry.ensures in
     record { answered = ended.0; runs = ended.1 }
 
-pub returns-in-End : goal.returns-in-End
-returns-in-End c =
-    let ended =
-    ends_here _ _ c.loop-g.invariant false Whole
-    (entries_read {entry = End} (record { is = sym c.read_entry.ensures ∙ c.in-End.is }))
-    refl in
+pub returns : goal.returns
+returns c =
+    let l = c.loop-entry.invariant in
+    let ended = end_here l.same_log l.so_far c.in_ok-entry.ensures c.in_default.is in
     record { answered = ended.0; runs = ended.1 }
