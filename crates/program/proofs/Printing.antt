@@ -3,10 +3,10 @@
 use mathlib.Core.Path.{◌≡◌, refl, sym, ap, ◌∙◌}
 use mathlib.Core.List.{List, [], ◌∷◌, ◌++◌, append_assoc}
 use Prim.Native.Nat.{ℕ, ◌+◌, ◌^◌, ◌≤◌, ◌<◌}
-use native.Mathlib.Numerals.{add-one}
 use native.Mathlib.Omega.{arith}
-use lib.ListN.{length, take, drop, get_or, set, length-append}
-use lib.Seq.{sets, length-sets, take-suc, take_at, length-take-le}
+use lib.ListN.{length, take, drop, length-append}
+use borrow.Rule.Slice.PartMut.{put_mid}
+use lib.Seq.{drop-drop, sets, sets-eq, length-sets, take_at}
 use borrow.Author.Tests.{le-leb}
 use Rattle.std.specs.Prelude.{Result, Ok, Err}
 use Rattle.std.specs.Result.{result_unwrap_or}
@@ -22,21 +22,18 @@ use Rattle.digits.proofs.Decimal.{count_within}
 use Rattle.digits.proofs.Spelling.{field_length}
 use Rattle.digits.proofs.Stores.{sets_append, sets_start}
 use Rattle.counters.proofs.Line.{Wide, line_within, ten_length}
+use Rattle.program.specs.declared.printed.Output.{Output}
 use Rattle.program.specs.Output.{Prints, LinePut}
 
--- ---- copied one by one
+-- ---- copied at a place
 
-module _ (d : List ℕ) (at : ℕ) (s : List ℕ) where
-  pub copied_length : (i : ℕ) (out : List ℕ) → out ≡ sets d at (take i s) → length out ≡ length d
-  copied_length i out e = ap length e ∙ length-sets d at (take i s)
-
-  pub copied_more : (i : ℕ) (out : List ℕ) → i < length s → out ≡ sets d at (take i s) →
-      set out (at + i) (get_or s i 0) ≡ sets d at (take (i + 1) s)
-  copied_more i out h e =
-      ap (λ (l : List ℕ). set l (at + i) (get_or s i 0)) e
-      ∙ ap (λ (k : ℕ). set (sets d at (take i s)) (at + k) (get_or s i 0)) (sym (length-take-le i s (omega arith)))
-      ∙ sets_append d at (take i s) (get_or s i 0 ∷ [])
-      ∙ ap (sets d at) (sym (ap (λ (k : ℕ). take k s) (add-one i) ∙ take-suc s i 0 h))
+pub copied : (at room : ℕ) (out bytes : List ℕ) → at + length bytes ≤ length out → room ≡ length bytes →
+    put_mid at room out bytes ≡ sets out at bytes
+copied at room out bytes there is =
+    sym
+    (sets-eq bytes out at there
+    ∙ append_assoc (take at out) bytes (drop (at + length bytes) out)
+    ∙ (rw (is, drop-drop (length bytes) at out) refl))
 
 -- ---- the line of a refusal
 
@@ -55,8 +52,13 @@ refused_long n = ap length (line_of n) ∙ length-append word (field n 10) ∙ a
 pub refused_short : (n : ℕ) → n < 2 ^ 8 → length (refused_line n) ≤ 12
 refused_short n h = omega (arith, refused_long n, count_within 2 n (omega arith))
 
-pub refusal_put : (at n : ℕ) (b : List ℕ) → sets (sets b at word) (at + 8) (field n 10) ≡ sets b at (refused_line n)
+refusal_put : (at n : ℕ) (b : List ℕ) → sets (sets b at word) (at + 8) (field n 10) ≡ sets b at (refused_line n)
 refusal_put at n b = sets_append b at word (field n 10) ∙ ap (sets b at) (sym (line_of n))
+
+-- the word is copied, and the number put behind it
+pub word_put : (at room n : ℕ) (out : List ℕ) → at + 8 ≤ length out → room ≡ 8 →
+    sets (put_mid at room out word) (at + 8) (field n 10) ≡ sets out at (refused_line n)
+word_put at room n out there is = ap (λ (l : List ℕ). sets l (at + 8) (field n 10)) (copied at room out word there is) ∙ refusal_put at n out
 
 -- ---- the counters line
 
@@ -86,8 +88,7 @@ pub read_back : (x b b' : List ℕ) (size : ℕ) → size ≡ length x → b' �
 read_back x b b' size e f = ap (take size) f ∙ take_at x (drop (length x) b) size (sym e)
 
 -- what was put at the start alone
-pub prints_one : (x b b' : List ℕ) (size : ℕ) → size ≡ 0 + length x → b' ≡ sets b 0 x → length x ≤ length b →
-    Prints x (record { bytes = b'; size = size })
-prints_one x b b' size e f room =
-    let same : length b' ≡ length b = ap length f ∙ length-sets b 0 x in
-    record { written = read_back x b b' size (omega arith) (f ∙ sets_start x b room); fits = omega arith }
+pub prints_one : (x b : List ℕ) (r : Output) → r.size ≡ 0 + length x → r.bytes ≡ sets b 0 x → length x ≤ length b → Prints x r
+prints_one x b r e f room =
+    let same : length r.bytes ≡ length b = ap length f ∙ length-sets b 0 x in
+    record { written = read_back x b r.bytes r.size (omega arith) (f ∙ sets_start x b room); fits = omega arith }

@@ -1,2 +1,3 @@
--- What the contracts of `program` cite beside the model's definitions.
+-- What the contracts of `program` cite beside the model's definitions. Input: the input's refusals and parts. Output: what is printed.
+pub mod Input
 pub mod Output

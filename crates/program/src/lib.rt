@@ -5,37 +5,32 @@ ghost use Rattle.std.specs.Prelude.{◌≡◌, ◌+◌, ◌≤◌, length};
 ghost use Rattle.std.proofs.lemmas.List.Edits.{sets};
 ghost use Rattle.model.specs.Plan.{plan_of, plan_answer};
 ghost use Rattle.model.specs.Program.{refused_line, log_output, output_by, program};
-ghost use Rattle.engine.specs.Reached.{JobWords};
-ghost use Rattle.program.specs.Output.{Prints, LinePut, PrintsRan};
+ghost use Rattle.program.specs.Input.{input_number, Parts};
+ghost use Rattle.program.specs.Output.{Prints, LinePut};
+
+mod printed;
 
 use counters::Counters;
-use day_log::LogAnswer;
-use memory::Words;
+pub use printed::Output;
 use refusals::Refusal;
 
-// What is printed: the first `size` of the bytes. The longest output is a counters line and `refused 18`, 138 bytes.
-#[derive(Clone, Copy)]
-pub struct Output {
-    pub bytes: [u8; 256],
-    pub size: usize,
+// Why an input is refused before its plan is looked at; input_number gives the numbers.
+#[derive(Clone, Copy, Debug, PartialEq, Eq)]
+pub enum InputRefusal {
+    // It has more than 65,536 bytes.
+    TooLong,
+    // It ends before its plan does.
+    TooShort,
 }
 
-fn wide(byte: u8) -> usize
-    ensures { result ≡ byte }
-{
-    byte as usize
-}
+impl Refusal for InputRefusal {
+    ghost number = { input_number };
 
-// Puts bytes at a place.
-fn put_bytes(out: &mut [u8], at: usize, bytes: &[u8])
-    requires { at + length bytes.now ≤ length out.old }
-    ensures { out.new ≡ sets out.old at bytes.now }
-{
-    let mut i = 0;
-    while i < bytes.len() {
-        let place = at + i;
-        out[place] = bytes[i];
-        i += 1;
+    fn number(self) -> u8 {
+        match self {
+            InputRefusal::TooLong => 21,
+            InputRefusal::TooShort => 22,
+        }
     }
 }
 
@@ -45,18 +40,8 @@ fn put_refusal(out: &mut [u8], at: usize, number: u8) -> usize
     ensures next { result ≡ at + length (refused_line number) }
     ensures bytes { out.new ≡ sets out.old at (refused_line number) }
 {
-    let word = [114u8, 101, 102, 117, 115, 101, 100, 32];
-    put_bytes(out, at, &word);
-    digits::put_field(out, at + 8, number as u64, 10)
-}
-
-// A refusal and nothing else.
-fn refusal(number: u8) -> Output
-    ensures { Prints (refused_line number) result }
-{
-    let mut bytes = [0u8; 256];
-    let size = put_refusal(&mut bytes, 0, number);
-    Output { bytes, size }
+    out[at..at + 8].copy_from_slice(b"refused ");
+    digits::put_field(out, at + 8, u64::from(number), b'\n')
 }
 
 // Puts a counters line at the start, and answers its length.
@@ -67,20 +52,6 @@ fn put_line(counters: Counters, out: &mut [u8]) -> usize
     counters::write_line(counters, out).unwrap_or(0)
 }
 
-// The counters line of a job's words, and after a broken log `refused 18`.
-fn ran_output(words: &Words, refusals: u64, answer: LogAnswer) -> Output
-    requires { JobWords words.now }
-    ensures { PrintsRan words.now refusals answer result }
-{
-    let mut bytes = [0u8; 256];
-    let size = put_line(report::counters_of(words, refusals), &mut bytes);
-    if let LogAnswer::BrokenEntry = answer {
-        let end = put_refusal(&mut bytes, size, 18);
-        return Output { bytes, size: end };
-    }
-    Output { bytes, size }
-}
-
 // The plan and then the log, in place in one memory: with a refused plan nothing of the log is looked at.
 fn plan_output(plan: &[u8], log: &[u8]) -> Output
     ensures { Prints (output_by (plan_answer plan.now)
@@ -88,28 +59,37 @@ fn plan_output(plan: &[u8], log: &[u8]) -> Output
 {
     let mut memory = [0u16; memory::MEMORY_SIZE];
     let mut words = [0u64; memory::WORD_COUNT];
-    let answer = engine::accept(plan, &mut memory, &mut words);
-    if let Err(refused) = answer {
-        return refusal(refused.number());
+    if let Err(refusal) = engine::accept(plan, &mut memory, &mut words) {
+        return Output::refused(refusal);
     }
-    let mut refusals = 0u64;
+    let mut refusals = 0;
     let ran = day_log::run(&mut memory, &mut words, log, &mut refusals);
-    ran_output(&words, refusals, ran)
+    Output::ran(&words, refusals, ran)
+}
+
+// The plan and the log of an input, which begins with the plan's length in two bytes.
+fn parts(input: &[u8]) -> Result<(&[u8], &[u8]), InputRefusal>
+    ensures { Parts input.now result }
+{
+    if input.len() > 65536 {
+        return Err(InputRefusal::TooLong);
+    }
+    if input.len() < 2 {
+        return Err(InputRefusal::TooShort);
+    }
+    let end = 2 + usize::from(u16::from_be_bytes([input[0], input[1]]));
+    if input.len() < end {
+        return Err(InputRefusal::TooShort);
+    }
+    Ok((&input[2..end], &input[end..]))
 }
 
 // What the program prints of its input.
 pub fn run(input: &[u8]) -> Output
     ensures { Prints (program input.now) result }
 {
-    if input.len() > 65536 {
-        return refusal(21);
+    match parts(input) {
+        Ok((plan, log)) => plan_output(plan, log),
+        Err(refusal) => Output::refused(refusal),
     }
-    if input.len() < 2 {
-        return refusal(22);
-    }
-    let end = 2 + (wide(input[0]) * 256 + wide(input[1]));
-    if input.len() < end {
-        return refusal(22);
-    }
-    plan_output(&input[2..end], &input[end..])
 }

@@ -1,29 +1,32 @@
 -- `program::put_refusal` meets its contract: the word, and then the number with byte 10. Assumes nothing.
-use mathlib.Core.Path.{ap, ◌∙◌}
-use mathlib.Core.List.{List}
-use Prim.Native.Nat.{ℕ, ◌+◌}
+use mathlib.Core.Path.{◌≡◌, ap, ◌∙◌}
+use Prim.Native.Nat.{◌+◌, ◌-◌, ◌≤◌}
 use native.Mathlib.Omega.{arith}
-use lib.Seq.{sets}
-use Rattle.digits.specs.Spelling.{field}
-use Rattle.program.proofs.Printing.{refused_long, refusal_put}
+use lib.ListN.{length}
+use lib.Seq.{length-sets}
+use borrow.Rule.Slice.PartMut.{put_mid}
+use Rattle.model.specs.Digits.{digit_count}
+use Rattle.program.proofs.Printing.{word, copied, refused_long, word_put}
 use Rattle.program.proofs.put_refusal.Goals as goal
 
-pub put_bytes-requires : goal.put_bytes-requires
-put_bytes-requires c =
-    omega (arith, refused_long c.args.number)
-
-pub overflow_add-at : goal.overflow_add-at
-overflow_add-at c =
-    omega (arith, c.requires, c.well_formed.0, refused_long c.args.number)
+pub slice_bounds-copy_from_slice-end : goal.slice_bounds-copy_from_slice-end
+slice_bounds-copy_from_slice-end c = omega (arith, c.requires, refused_long c.args.number)
 
 pub put_field-requires : goal.put_field-requires
 put_field-requires c =
-    omega (arith, c.requires, c.put_bytes.auto.out, refused_long c.args.number)
+    let there : c.args.at + 8 ≤ length c.args.out.now = omega (arith, c.requires, refused_long c.args.number) in
+    let eight : c.args.at + 8 - c.args.at ≡ 8 = omega arith in
+    let kept : length (put_mid c.args.at (c.args.at + 8 - c.args.at) c.args.out.now c.copy_from_slice.new.self) ≡ length c.args.out.now =
+    rw c.copy_from_slice.ensures.after
+    (ap length (copied c.args.at (c.args.at + 8 - c.args.at) c.args.out.now word there eight) ∙ length-sets c.args.out.now c.args.at word) in
+    omega (arith, kept, c.requires, refused_long c.args.number, c.from.ensures, ap digit_count c.from.ensures)
 
 pub returns : goal.returns
 returns c =
-    let s = c.args in record {
-      next = omega (arith, c.put_field.ensures.next, refused_long s.number);
-      bytes = c.put_field.ensures.bytes
-          ∙ ap (λ (l : List ℕ). sets l (s.at + 8) (field s.number 10)) c.put_bytes.ensures ∙ refusal_put s.at s.number s.out.now;
+    let there : c.args.at + 8 ≤ length c.args.out.now = omega (arith, c.requires, refused_long c.args.number) in
+    let eight : c.args.at + 8 - c.args.at ≡ 8 = omega arith in
+    record {
+      next = omega (arith, c.put_field.ensures.next, refused_long c.args.number, ap digit_count c.from.ensures);
+      bytes = (rw (c.copy_from_slice.ensures.after, c.from.ensures) at c.put_field.ensures.bytes)
+          ∙ word_put c.args.at (c.args.at + 8 - c.args.at) c.args.number c.args.out.now there eight;
     }
