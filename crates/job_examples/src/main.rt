@@ -1,10 +1,10 @@
-// Document 01's examples on the job record by value. That the record may be handed to a call is shown from the contracts alone, as are
+// Document 01's examples on the job record. That the record may be handed to a call is shown from the contracts alone, as are
 // examples 3 and 4; the rest is run, and what it prints, lines and wordings, is compared.
 #![tactic(auto)]
 
 ghost use Rattle.engine.specs.Reached.{IsJob};
 
-use log_reader::Entry;
+use log_reader::{Entry, LogReader};
 use memory::Job;
 use refusals::Refusal;
 use std::io;
@@ -19,29 +19,17 @@ const SEVEN: [u8; 26] = [
 // One task.
 const ONE: [u8; 8] = [21, 64, 0, 8, 0, 0, 0, 0];
 
-// The record after the entries of a log, a call on the record for each.
-fn played(job: Job, log: &[u8]) -> Job
-    requires { IsJob job }
-    ensures { IsJob result }
+// Plays the entries of a log on a record, a call on it for each.
+fn play(job: &mut Job, log: &[u8])
+    requires { IsJob job.old }
+    ensures { IsJob job.new }
 {
-    let mut now_job = job;
-    let mut at = log_reader::first_place(log);
-    loop {
-        match log_reader::read_entry(log, at) {
-            Entry::Grant(g) => {
-                let called = job::grant(now_job, g as u64);
-                now_job = called.job;
-                at = at + 1;
-            }
-            Entry::Tick(start, choices) => {
-                let past = start + choices;
-                let called = job::tick(now_job, &log[start..past]);
-                now_job = called.job;
-                at = past;
-            }
-            Entry::Broken => return now_job,
-            Entry::End => return now_job,
-        }
+    let mut entries = LogReader::new(log);
+    while let Ok(Some(entry)) = entries.next_entry() {
+        let _answer = match entry {
+            Entry::Grant(workers) => job::grant(job, u64::from(workers)),
+            Entry::Tick(choices) => job::tick(job, choices),
+        };
     }
 }
 
@@ -80,29 +68,22 @@ fn show_wording(out: &impl Print, job: &Job, sheet: &[u8]) -> io::Result<()>
 
 // Accepts a plan and plays a log on its record; then its line, and its wording in a sheet.
 fn example(out: &impl Print, bytes: &[u8], log: &[u8], sheet: &[u8]) -> io::Result<()> {
-    let acceptance = job::accept(bytes);
-    let answer = acceptance.answer;
-    let job = acceptance.job;
-    if plan_fields::passed(answer) {
-        let last = played(job, log);
-        show_line(out, &last)?;
-        show_wording(out, &last, sheet)?;
-    }
-    Ok(())
+    let Ok(mut job) = job::accept(bytes) else {
+        return Ok(());
+    };
+    play(&mut job, log);
+    show_line(out, &job)?;
+    show_wording(out, &job, sheet)
 }
 
 // Examples 3 and 4 from the contracts alone: Plan A is accepted, a first grant of 2 is refused by 14, and the status is then 0.
 fn contracts_alone() {
-    let acceptance = job::accept(&PLAN_A);
-    let answer = acceptance.answer;
-    check::expect(plan_fields::passed(answer));
-    let job = acceptance.job;
-    let called = job::grant(job, 2);
-    let refusal = called.answer;
-    check::expect(call_questions::number(refusal) == 14);
-    let same = called.job;
-    let status = job::job_status(same);
-    check::expect(u8::from(status) == 0);
+    let accepted = job::accept(&PLAN_A);
+    check::expect(accepted.is_ok());
+    let mut job = accepted.unwrap();
+    let granted = job::grant(&mut job, 2);
+    check::expect(refusals::number_of(granted) == 14);
+    check::expect(u8::from(job::job_status(&job)) == 0);
 }
 
 fn main(rt: HostRuntime) -> io::Result<()> {

@@ -2,30 +2,35 @@
 -- is a job; a first grant of 2 leaves it.
 -- Assumes nothing.
 use Rattle.std.proofs.Common.{ap, ◌∙◌, eq-eqb}
+use Rattle.std.specs.Result.{is_ok}
 use Rattle.model.specs.Questions.{answer_number}
 use Rattle.model.proofs.Examples.{plan_a_begins}
-use Rattle.plan_fields.specs.Answers.{passes}
-use Rattle.job_examples.proofs.Calls.{onward, begun, refused_14, still_fresh}
+use Rattle.job_examples.proofs.Calls.{given, onward, begun, refused_14, still_fresh}
 use Rattle.job_examples.proofs.contracts_alone.Goals as goal
 
 pub expect-requires : goal.expect-requires
-expect-requires c = c.passed.ensures ∙ ap passes (c.accept-acceptance.ensures.answered ∙ plan_a_begins.0)
+expect-requires c =
+    c.is_ok.ensures.value ∙ ap is_ok (given _ (c.accept-accepted.ensures.answered ∙ plan_a_begins.0)).1
 
-pub grant-called-requires : goal.grant-called-requires
-grant-called-requires c = begun c.accept-acceptance.ensures.accepts plan_a_begins.0
+pub unwrap-job-requires : goal.unwrap-job-requires
+unwrap-job-requires c =
+    ap is_ok (given _ (c.accept-accepted.ensures.answered ∙ plan_a_begins.0)).1
+
+pub grant-granted-requires : goal.grant-granted-requires
+grant-granted-requires c =
+    begun (rw c.unwrap-job.ensures at c.accept-accepted.ensures.accepts) plan_a_begins.0
 
 pub expect-requires-2 : goal.expect-requires-2
 expect-requires-2 c =
-    eq-eqb c.number.result 14
-    (c.number.ensures ∙ ap answer_number (c.grant-called.ensures.answered ∙ refused_14 c.accept-acceptance.ensures.accepts))
+    let accepts = rw c.unwrap-job.ensures at c.accept-accepted.ensures.accepts in
+    eq-eqb c.number_of.result 14 (c.number_of.ensures ∙ ap answer_number (c.grant-granted.ensures.answered ∙ refused_14 accepts))
 
-pub job_status-status-requires : goal.job_status-status-requires
-job_status-status-requires c =
-    onward (begun c.accept-acceptance.ensures.accepts plan_a_begins.0) c.grant-called.ensures.moves
+pub job_status-requires : goal.job_status-requires
+job_status-requires c =
+    let accepts = rw c.unwrap-job.ensures at c.accept-accepted.ensures.accepts in
+    onward (begun accepts plan_a_begins.0) c.grant-granted.ensures.moves
 
 pub expect-requires-3 : goal.expect-requires-3
 expect-requires-3 c =
-    eq-eqb c.from.result 0
-    (c.from.ensures
-    ∙ c.job_status-status.ensures
-    ∙ still_fresh c.accept-acceptance.ensures.accepts c.grant-called.ensures.moves)
+    let accepts = rw c.unwrap-job.ensures at c.accept-accepted.ensures.accepts in
+    eq-eqb c.from.result 0 (c.from.ensures ∙ c.job_status.ensures ∙ still_fresh accepts c.grant-granted.ensures.moves)
