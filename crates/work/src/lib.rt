@@ -9,7 +9,7 @@ use memory::{Deque, Memory};
 
 // The front task of the worker's deque, one of so many there, had its last tick: it leaves, and its successors that became ready take its
 // place. A task with one successor comes first: where that one became ready, it is the new front and the size stays. Each way out stores
-// what it changes and no more, in place: this is where most of a tick's time goes.
+// what it changes and no more, in place: each completed task comes through here, and the speed of that is compared.
 #[tactic(auto, using(crate::proofs::Working::completion_in_place))]
 fn complete(memory: &mut Memory, w: usize, task: usize, size: u16)
     requires { (p : Parts) × ((m : Numbers) × LastTick p m w task size (parts memory.old)) }
