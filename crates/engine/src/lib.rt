@@ -18,6 +18,7 @@ use plan_fields::PlanRefusal;
 
 // A plan of any bytes: the memory and the words hold its fresh job, whatever they held before; or the first "no", and they stay as
 // they came.
+#[tactic(auto, using(crate::proofs::Accepting::accepts, crate::proofs::Accepting::refuses))]
 pub fn accept(bytes: &[u8], memory: &mut Memory, words: &mut Words) -> Result<(), PlanRefusal>
     ensures answered { plan_answer_of result ≡ plan_answer bytes.now }
     ensures accepts { Accepts bytes.now (job_before memory words) (job_after memory words) }

@@ -15,6 +15,7 @@ use Rattle.model.specs.Plan.{growth_with, growth_field, plan_of, duration_of, lo
 use Rattle.model.specs.Statements.{GrowthMost}
 use Rattle.plan_fields.specs.declared.TaskFields.{TaskFields}
 use Rattle.plan_fields.specs.Fields.{TaskOf}
+use Rattle.plan.specs.Reads.{FieldsDue}
 use Rattle.lists.proofs.Tests.{true_is_not_false}
 use Rattle.lists.proofs.Tables.{table_at, table_length}
 use Rattle.lists.proofs.Sums.{some_within}
@@ -69,14 +70,6 @@ module _ (bytes : List ℕ) (t : ℕ) where
 
   -- as the code tells the forms apart, with the bytes of a task
   module _ (known : is_form (form_field bytes) forms ≡ true) (width : ℕ) (its_width : width ≡ (form_of bytes).task_bytes) where
-    pub three_or_more : 3 ≤ width
-    three_or_more = go (known_form bytes known)
-      where
-        go : KnownForm (form_of bytes) → 3 ≤ width
-        go (is_1 e) = rw (its_width, e) (omega arith)
-        go (is_2 e) = rw (its_width, e) (omega arith)
-        go (is_3 e) = rw (its_width, e) (omega arith)
-
     module _ {f : TaskFields} where
       pub of_four : width ≡ 4 →
           TaskOf form_2
@@ -108,6 +101,14 @@ module _ (bytes : List ℕ) (t : ℕ) where
           go (is_3 e) =
               let three : width ≡ 3 = rw (its_width, e) in
               rw (bits_of_three (sym its_width ∙ three), e) (as_form_3 (rw three at read))
+
+pub three_or_more : (bytes : List ℕ) (t width : ℕ) → FieldsDue bytes t width → 3 ≤ width
+three_or_more bytes t width due = go (known_form bytes due.known)
+  where
+    go : KnownForm (form_of bytes) → 3 ≤ width
+    go (is_1 e) = rw (due.its_width, e) (omega arith)
+    go (is_2 e) = rw (due.its_width, e) (omega arith)
+    go (is_3 e) = rw (due.its_width, e) (omega arith)
 
 -- the bytes of a task are among those of all tasks
 pub task_there : (width t n size : ℕ) → t < n → size ≡ 5 + width * n → 5 + width * t + width ≤ size

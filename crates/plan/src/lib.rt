@@ -35,6 +35,7 @@ fn note(memory: &mut Memory, s: usize)
 }
 
 // The fields of the task t, of so many bytes as each task of the plan's form has.
+#[tactic(auto, using(crate::proofs::Forms::three_or_more))]
 fn fields_of<const WIDTH: usize>(bytes: &[u8], t: usize) -> TaskFields
     requires { FieldsDue bytes.now t WIDTH }
     ensures { TaskOf (form_of bytes.now) (task_bits bytes.now t) result }

@@ -1,6 +1,6 @@
 -- The fields of a header's five bytes, as the code takes them from the bytes that they cross.
 -- Assumes nothing.
-use mathlib.Core.Path.{◌≡◌, refl, ap, ◌∙◌}
+use mathlib.Core.Path.{◌≡◌, sym, ap, ◌∙◌}
 use mathlib.Core.Bool.{Bool, true, false, cond}
 use mathlib.Core.List.{List}
 use Prim.Native.Nat.{ℕ, ◌+◌, ◌*◌, ◌/◌, ◌%◌, ◌<◌}
@@ -76,9 +76,10 @@ module _ (a b c d e : ℕ) (a_fits : a < 256) (b_fits : b < 256) (c_fits : c < 2
           tasks_read = tasks_bits;
         })
 
-    pub header_taken : growth_of r ≡ cond (eqb (a / 16) 3) (by_tenths (a % 16 * 2 + b / 128)) (by_factor (a / 2 % 8)) →
-        u ≡ cond (eqb (a / 16) 3) (b % 128) (a % 2 * 64 + b / 4) →
-        q ≡ cond (eqb (a / 16) 3) (c * 64 + d / 4) (b % 4 * 16384 + (c * 64 + d / 4)) →
+    pub header_taken : (is_gentle : Bool) → is_gentle ≡ eqb (a / 16) 3 →
+        growth_of r ≡ cond is_gentle (by_tenths (a % 16 * 2 + b / 128)) (by_factor (a / 2 % 8)) →
+        u ≡ cond is_gentle (b % 128) (a % 2 * 64 + b / 4) →
+        q ≡ cond is_gentle (c * 64 + d / 4) (b % 4 * 16384 + (c * 64 + d / 4)) →
         HeaderOf (form_with (field 4 36 (five_bytes a b c d e)) forms) (five_bytes a b c d e)
         (record { form = a / 16; growth = r; utilization = u; quantum = q; tasks = d % 4 * 256 + e + 1 })
-    header_taken its_r its_u its_q = rw (← form_bits) (taken (eqb (a / 16) 3) refl its_r its_u its_q)
+    header_taken is_gentle three its_r its_u its_q = rw (← form_bits) (taken is_gentle (sym three) its_r its_u its_q)

@@ -90,7 +90,8 @@ impl Form {
     }
 }
 
-// The header's fields, with the form's number as it was read, and the number of tasks itself and not one less.
+// The header's fields, with the form's number as it was read, since taking bytes apart can't fail, and the number of tasks itself and not
+// one less.
 #[derive(Clone, Copy)]
 pub struct Header {
     pub form: usize,
@@ -107,6 +108,14 @@ pub struct TaskFields {
     pub first: usize,
     pub second: usize,
     pub ticks: u8,
+}
+
+// Is it form 3's number?
+#[tactic(auto, unfolding(model::specs::Plan::is_form, model::specs::Plan::form_with, model::specs::Plan::forms))]
+fn is_gentle(number: u8) -> bool
+    ensures { result ≡ eqb number 3 }
+{
+    matches!(Form::try_from(number), Ok(Form::Three))
 }
 
 // R: three bits of the first byte, or in form 3 five bits of the first two.
@@ -148,7 +157,7 @@ pub fn header_of(bytes: [u8; 5]) -> Header
 {
     let [a, b, c, d, e] = bytes;
     let form = (a / 16) as usize;
-    let gentle = form == 3;
+    let gentle = is_gentle(form);
     let low = (c as usize) * 64 + (d as usize) / 4;
     Header {
         form,

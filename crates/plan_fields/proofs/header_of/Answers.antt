@@ -8,4 +8,4 @@ unfolding form_of
 returns c =
     rw (header_bytes c.args.bytes)
     (header_taken _ _ _ _ _ c.element_fits.fits c.element_fits2.fits c.element_fits3.fits c.element_fits4.fits c.element_fits5.fits
-    _ _ _ c.growth_in.ensures c.utilization_in.ensures c.length_in.ensures)
+    _ _ _ _ c.is_gentle-gentle.ensures c.growth_in.ensures c.utilization_in.ensures c.length_in.ensures)
