@@ -112,7 +112,7 @@ pub struct TaskFields {
 
 // Is it form 3's number?
 #[tactic(auto, unfolding(model::specs::Plan::is_form, model::specs::Plan::form_with, model::specs::Plan::forms))]
-fn is_gentle(number: u8) -> bool
+fn is_gentle(number: usize) -> bool
     ensures { result ≡ eqb number 3 }
 {
     matches!(Form::try_from(number), Ok(Form::Three))
