@@ -1,5 +1,5 @@
--- What stands beside the number of a refused plan. It is no record: no plan and no calls reach it. It has no task, so it shows as fresh and
--- not as finished.
+-- Memory and words of zeros, from which acceptance starts. They are no record: no plan and no calls reach them. They have no task, so they
+-- show as fresh and not as finished.
 use Rattle.std.specs.Prelude.{replicate}
 use Rattle.memory.specs.declared.Job.{Job}
 use Rattle.memory.specs.Parts.{memory_size}
