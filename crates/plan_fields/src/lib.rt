@@ -101,7 +101,7 @@ pub struct Header {
     pub tasks: usize,
 }
 
-// A task's fields, and its ticks.
+// A task's fields, and its ticks. An unused field stays a number, for speed: `fits` tests one successor and two without a branch.
 #[derive(Clone, Copy)]
 pub struct TaskFields {
     pub count: usize,
