@@ -8,6 +8,13 @@ ghost use Rattle.whole_input.specs.Whole.{AllThatFits};
 use std::io;
 use std::io::Read;
 
+// Room for so many bytes. Its length is known by this clause, where counting a long literal takes the checker minutes.
+pub fn room<const N: usize>() -> [u8; N]
+    ensures { length result ≡ N }
+{
+    [0; N]
+}
+
 // Reads until the buffer is full or the input ends, in as many pieces as it comes in, and answers how many bytes were read. A read that is
 // interrupted is made again; another error is handed back, and the last interruption where they never end.
 pub fn read_full<R: Read>(input: &mut R, buffer: &mut [u8]) -> io::Result<usize>
