@@ -10,10 +10,9 @@ use lib.ListN.{length, get_or, take, drop, length-drop, drop_of_length-le}
 use lib.Seq.{drop-drop, get_or-drop}
 use borrow.Author.Tests.{ltb-true, ltb-false, leb-true, lt-ltb, le-ltb, le-leb, lt-leb}
 use Rattle.model.specs.Plan.{number}
-use Rattle.stored_set.specs.declared.Placed.{Placed}
-use Rattle.stored_set.specs.declared.Placed.TheVariants.{Whole, Cut, End}
+use Rattle.std.specs.Prelude.{Some, None, Ok, Err}
 use Rattle.stored_set.specs.Stored.{Stored, input_size, expected_size, case_size, first_case, case_then, stored_up_to, stored}
-use Rattle.stored_set.specs.Stored.{placed_of}
+use Rattle.stored_set.specs.Stored.{Placed, placed_of}
 
 -- ---- the bound on the number of cases does not matter
 
@@ -70,17 +69,17 @@ module _ (set : List ℕ) (at : ℕ) where
 -- ---- the answers of the code
 
 module _ (set : List ℕ) (at : ℕ) where
-  pub at_end : length set ≤ at → End ≡ placed_of set at
+  pub at_end : length set ≤ at → Ok None ≡ placed_of set at
   unfolding placed_of
   at_end h = rw (le-ltb at (length set) h)
 
-  pub at_cut : at < length set → length set - at < case_size (drop at set) → Cut ≡ placed_of set at
+  pub at_cut : at < length set → length set - at < case_size (drop at set) → Err (record {}) ≡ placed_of set at
   unfolding placed_of
   at_cut h k = rw (lt-ltb at (length set) h, lt-leb (case_size (drop at set)) (length set - at) k)
 
   pub at_whole : at < length set → case_size (drop at set) ≤ length set - at →
       (input expected : ℕ) → input ≡ input_size (drop at set) → expected ≡ expected_size (drop at set) →
-      Whole input expected ≡ placed_of set at
+      Ok (Some (input, expected)) ≡ placed_of set at
   unfolding placed_of
   at_whole h k input expected e f = rw (lt-ltb at (length set) h, le-leb (case_size (drop at set)) (length set - at) k, e, f)
 
@@ -93,16 +92,16 @@ pub record CaseHere (set : List ℕ) (at input expected : ℕ) : Type 0 where
   pub inside : at + (4 + input + expected) ≤ length set
 
 abbrev pub Says : List ℕ → ℕ → Placed → Type 0
-Says set at (Whole input expected) = CaseHere set at input expected
-Says set at Cut = stored (drop at set) ≡ cut_off
-Says set at End = stored (drop at set) ≡ record { cases = []; whole = true }
+Says set at (Ok (Some (input, expected))) = CaseHere set at input expected
+Says set at (Err cut) = stored (drop at set) ≡ cut_off
+Says set at (Ok None) = stored (drop at set) ≡ record { cases = []; whole = true }
 
 module _ (set : List ℕ) (at : ℕ) where
   abbrev rest : List ℕ
   rest = drop at set
 
   says_by : (fits : Bool) → at < length set → leb (case_size rest) (length set - at) ≡ fits →
-      Says set at (cond fits (Whole (input_size rest) (expected_size rest)) Cut)
+      Says set at (cond fits (Ok (Some (input_size rest, expected_size rest))) (Err (record {})))
   says_by true h e =
       record { input_is = refl; expected_is = refl; inside = omega (arith, leb-true (case_size rest) (length set - at) e) }
   says_by false h e =
@@ -112,7 +111,7 @@ module _ (set : List ℕ) (at : ℕ) where
 
   says_there : (more : Bool) → ltb at (length set) ≡ more →
       Says set at
-      (cond more (cond (leb (case_size rest) (length set - at)) (Whole (input_size rest) (expected_size rest)) Cut) End)
+      (cond more (cond (leb (case_size rest) (length set - at)) (Ok (Some (input_size rest, expected_size rest))) (Err (record {}))) (Ok None))
   unfolding stored stored_up_to
   says_there true e = says_by _ (ltb-true at (length set) e) refl
   says_there false e = rw (drop_of_length-le set (ltb-false at (length set) e))
@@ -122,9 +121,9 @@ module _ (set : List ℕ) (at : ℕ) where
   says placed e = rw e (says_there _ refl)
 
 -- a place that is read as a whole case has one
-pub whole_here : {set : List ℕ} {at input expected : ℕ} {placed : Placed} → placed ≡ Whole input expected → placed ≡ placed_of set at →
+pub whole_here : {set : List ℕ} {at input expected : ℕ} {placed : Placed} → placed ≡ Ok (Some (input, expected)) → placed ≡ placed_of set at →
     CaseHere set at input expected
-whole_here {set} {at} {input} {expected} is read = says set at (Whole input expected) (sym is ∙ read)
+whole_here {set} {at} {input} {expected} is read = says set at (Ok (Some (input, expected))) (sym is ∙ read)
 
 -- the cases from a case on, by where its parts stand
 pub stored_here : (set : List ℕ) (at input expected : ℕ) → CaseHere set at input expected →

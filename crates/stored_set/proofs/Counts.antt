@@ -1,46 +1,27 @@
 -- What is counted after the cases so far: that one case more keeps it, and that it gives the tally at the end.
 -- Assumes nothing.
 use mathlib.Core.Path.{◌≡◌, refl, sym, ap, ◌∙◌}
-use mathlib.Core.Bool.{Bool, true, false, cond}
+use mathlib.Core.Bool.{Bool, true, false, cond, ◌&&◌}
 use mathlib.Core.List.{List, [], ◌∷◌}
 use Prim.Native.Nat.{ℕ, ◌+◌, ◌-◌, ◌≤◌}
 use native.Mathlib.Omega.{arith}
 use lib.Dec.{eqb}
+use mir.Val.{bool_byte}
+use lib.Pointwise.{pointwise}
 use lib.ListN.{length, take, drop}
-use borrow.Author.Tests.{eqb-true, eq-eqb}
 use Rattle.model.specs.Tests.{keep}
 use Rattle.model.specs.Program.{program}
-use Rattle.lists.proofs.Tests.{and_left, and_right}
 use Rattle.stored_set.specs.Stored.{Case, Stored, case_then, stored, same_bytes, as_said, tally_of}
 use Rattle.stored_set.proofs.Cases.{CaseHere, stored_here}
 
 -- ---- the comparison
 
-same_true : (x y : List ℕ) → same_bytes x y ≡ true → x ≡ y
+pub compared : (x y : List ℕ) → pointwise eqb x y ≡ same_bytes x y
 unfolding same_bytes
-same_true [] [] e = refl
-same_true [] (b ∷ y) e = cc
-same_true (a ∷ x) [] e = cc
-same_true (a ∷ x) (b ∷ y) e =
-    rw (eqb-true a b (and_left (eqb a b) (same_bytes x y) e), same_true x y (and_right (eqb a b) (same_bytes x y) e))
-
-same_self : (x : List ℕ) → same_bytes x x ≡ true
-unfolding same_bytes
-same_self [] = refl
-same_self (a ∷ x) = rw (eq-eqb a a refl, same_self x)
-
--- a test that holds exactly where the bytes are the same
-same_is : (r t : Bool) → (r ≡ true → t ≡ true) → (t ≡ true → r ≡ true) → r ≡ t
-same_is true true f g = refl
-same_is true false f g = sym (f refl)
-same_is false true f g = g refl
-same_is false false f g = refl
-
-pub compared : (r : Bool) (x y : List ℕ) → (r ≡ true → x ≡ y) × (x ≡ y → r ≡ true) → r ≡ same_bytes x y
-compared r x y exactly =
-    same_is r (same_bytes x y)
-    (λ e. rw (exactly.0 e) (same_self y))
-    (λ e. exactly.1 (same_true x y e))
+compared [] [] = refl
+compared [] (b ∷ y) = refl
+compared (a ∷ x) [] = refl
+compared (a ∷ x) (b ∷ y) = ap (λ same. eqb a b && same) (compared x y)
 
 -- ---- after the cases so far
 
@@ -55,6 +36,10 @@ said_cons case cases = by (as_said case)
     by : (b : Bool) → length (cond b (case ∷ keep as_said cases) (keep as_said cases)) ≡ cond b 1 0 + said cases
     by true = omega arith
     by false = omega arith
+
+pub counted_byte : (b : Bool) → bool_byte b ≡ cond b 1 0
+counted_byte true = refl
+counted_byte false = refl
 
 one_at_most : (b : Bool) → cond b 1 0 ≤ 1
 one_at_most true = omega arith

@@ -1,12 +1,11 @@
 -- The stored set of a second implementation: its cases one after the other, each an input's size in three bytes, the input, the size of
 -- what was printed in one byte, and what was printed. And what running the set counts.
 use Rattle.std.specs.Prelude.{Bool, true, false, cond, ◌&&◌, List, [], ◌∷◌, ℕ, zero, suc}
-use Rattle.std.specs.Prelude.{◌+◌, ◌-◌, eqb, leb, ltb, length, get_or, take, drop}
+use Rattle.std.specs.Prelude.{Option, Some, None, Result, Ok, Err, ◌+◌, ◌-◌, eqb, leb, ltb, length, get_or, take, drop}
 use Rattle.model.specs.Tests.{keep}
 use Rattle.model.specs.Plan.{number}
 use Rattle.model.specs.Program.{program}
-use Rattle.stored_set.specs.declared.Placed.{Placed}
-use Rattle.stored_set.specs.declared.Placed.TheVariants.{Whole, Cut, End}
+use Rattle.stored_set.specs.declared.Cut.{Cut}
 use Rattle.stored_set.specs.declared.SetTally.{SetTally}
 use Rattle.stored_set.specs.declared.Verdict.{Verdict}
 use Rattle.stored_set.specs.declared.Verdict.TheVariants.{AllAsSaid, SomeOther, SetCut, NothingRan}
@@ -82,8 +81,11 @@ verdict_of tally =
 
 -- ---- the case at a place of a set
 
--- its two sizes
+-- its two sizes, one that is cut off, or nothing more
+abbrev pub Placed : Type 0
+Placed = Result (Option (ℕ × ℕ)) Cut
+
 unfoldable pub placed_of : List ℕ → ℕ → Placed
 placed_of set at =
     let rest = drop at set in
-    cond (ltb at (length set)) (cond (leb (case_size rest) (length set - at)) (Whole (input_size rest) (expected_size rest)) Cut) End
+    cond (ltb at (length set)) (cond (leb (case_size rest) (length set - at)) (Ok (Some (input_size rest, expected_size rest))) (Err (record {}))) (Ok None)

@@ -2,20 +2,19 @@
 // counts the cases of the set and those for which the program prints what is stored. `specs/Stored.antt` has the set's form.
 #![tactic(auto)]
 
-ghost use Rattle.std.specs.Prelude.{◌≡◌, cond};
+ghost use Rattle.std.specs.Prelude.{◌≡◌};
 ghost use Rattle.model.specs.Program.{program};
 ghost use Rattle.stored_set.specs.Stored.{same_bytes, placed_of, stored, tally_of, verdict_of};
 
-// What stands at a place of a set: a case, as the sizes of its input and of what is expected; one that is cut off; or nothing more.
-#[derive(Clone, Copy)]
-pub enum Placed {
-    Whole(usize, usize),
-    Cut,
-    End,
-}
+use std::fmt;
+use std::fmt::{Display, Formatter, Write};
+
+// A case that is cut off.
+#[derive(Clone, Copy, Debug, PartialEq, Eq)]
+pub struct Cut;
 
 // What running a set counts: its cases, those that are as said, and whether nothing is left over.
-#[derive(Clone, Copy)]
+#[derive(Clone, Copy, Debug, PartialEq, Eq)]
 pub struct SetTally {
     pub cases: u64,
     pub same: u64,
@@ -23,7 +22,7 @@ pub struct SetTally {
 }
 
 // What a tally says of the program.
-#[derive(Clone, Copy)]
+#[derive(Clone, Copy, Debug, PartialEq, Eq)]
 pub enum Verdict {
     AllAsSaid,
     SomeOther,
@@ -31,53 +30,48 @@ pub enum Verdict {
     NothingRan,
 }
 
-fn wide(byte: u8) -> usize
-    ensures { result ≡ byte }
-{
-    byte as usize
+// Behind the counts it is said only where something is wrong.
+impl Display for Verdict {
+    fn fmt<W: Write>(&self, f: &mut Formatter<W>) -> fmt::Result {
+        match self {
+            Verdict::AllAsSaid => Ok(()),
+            Verdict::SomeOther => f.write_str(": NOT ALL THE SAME"),
+            Verdict::SetCut => f.write_str(": THE SET IS CUT OFF"),
+            Verdict::NothingRan => f.write_str(": NOTHING RAN"),
+        }
+    }
 }
 
-// The case at a place.
-fn case_at(set: &[u8], at: usize) -> Placed
+// The case at a place, as the sizes of its input and of what is expected; or none, at the set's end.
+fn case_at(set: &[u8], at: usize) -> Result<Option<(usize, usize)>, Cut>
     ensures { result ≡ placed_of set.now at }
 {
     if at >= set.len() {
-        return Placed::End;
+        return Ok(None);
     }
     let left = set.len() - at;
     if left < 4 {
-        return Placed::Cut;
+        return Err(Cut);
     }
-    let input = wide(set[at]) * 65536 + wide(set[at + 1]) * 256 + wide(set[at + 2]);
+    let input = usize::from(set[at]) * 65536
+        + usize::from(set[at + 1]) * 256
+        + usize::from(set[at + 2]);
     if left - 4 < input {
-        return Placed::Cut;
+        return Err(Cut);
     }
     let place = at + 3 + input;
-    let expected = wide(set[place]);
+    let expected = usize::from(set[place]);
     if left - 4 - input < expected {
-        return Placed::Cut;
+        return Err(Cut);
     }
-    Placed::Whole(input, expected)
+    Ok(Some((input, expected)))
 }
 
 // Whether the program prints these bytes for this input.
 fn as_said(input: &[u8], expected: &[u8]) -> bool
     ensures { result ≡ same_bytes (program input.now) expected.now }
 {
-    let output = program::run(input);
-    let bytes = output.bytes;
-    let size = output.size;
-    check::same(&bytes[..size], expected)
-}
-
-// 1 for a case that is as said, 0 for another.
-fn one_if(same: bool) -> u64
-    ensures { result ≡ cond same 1 0 }
-{
-    if same {
-        return 1;
-    }
-    return 0;
+    program::run(input).as_slice() == expected
 }
 
 // Every case of a set, one after the other.
@@ -89,23 +83,23 @@ pub fn run(set: &[u8]) -> SetTally
     let mut at: usize = 0;
     loop {
         match case_at(set, at) {
-            Placed::Whole(input, expected) => {
+            Ok(Some((input, expected))) => {
                 let start = at + 3;
                 let place = start + input;
                 let next = place + 1;
                 let end = next + expected;
-                same += one_if(as_said(&set[start..place], &set[next..end]));
+                same += u64::from(as_said(&set[start..place], &set[next..end]));
                 cases += 1;
                 at = end;
             }
-            Placed::Cut => {
+            Err(Cut) => {
                 return SetTally {
                     cases,
                     same,
                     whole: false,
                 };
             }
-            Placed::End => {
+            Ok(None) => {
                 return SetTally {
                     cases,
                     same,

@@ -12,27 +12,27 @@ returns-then-left-lt4 c = at_cut _ _ c.if-at-set.false (omega arith)
 
 pub returns-then-left-input : goal.returns-then-left-input
 returns-then-left-input c =
-    let input = c.wide.result * 65536 + c.wide-2.result * 256 + c.wide-3.result in
+    let input = c.from.result * 65536 + c.from-2.result * 256 + c.from-3.result in
     let input_is : input ≡ input_size (drop c.args.at c.args.set.now) =
-    omega (arith, c.wide.ensures, c.wide-2.ensures, c.wide-3.ensures, input_read c.args.set.now c.args.at) in
+    omega (arith, c.from.ensures, c.from-2.ensures, c.from-3.ensures, input_read c.args.set.now c.args.at) in
     at_cut _ _ c.if-at-set.false (omega (arith, input_is, c.if-left-input.true))
 
 pub returns-then-left-input-2 : goal.returns-then-left-input-2
 returns-then-left-input-2 c =
-    let input = c.wide.result * 65536 + c.wide-2.result * 256 + c.wide-3.result in
+    let input = c.from.result * 65536 + c.from-2.result * 256 + c.from-3.result in
     let input_is : input ≡ input_size (drop c.args.at c.args.set.now) =
-    omega (arith, c.wide.ensures, c.wide-2.ensures, c.wide-3.ensures, input_read c.args.set.now c.args.at) in
-    let expected_is : c.wide-expected.result ≡ expected_size (drop c.args.at c.args.set.now) =
-    c.wide-expected.ensures ∙ sym (expected_read c.args.set.now c.args.at _ (omega (arith, input_is))) in
+    omega (arith, c.from.ensures, c.from-2.ensures, c.from-3.ensures, input_read c.args.set.now c.args.at) in
+    let expected_is : c.from-expected.result ≡ expected_size (drop c.args.at c.args.set.now) =
+    c.from-expected.ensures ∙ sym (expected_read c.args.set.now c.args.at _ (omega (arith, input_is))) in
     at_cut _ _ c.if-at-set.false (omega (arith, input_is, expected_is, c.if-left-input-2.true))
 
 pub returns : goal.returns
 returns c =
-    let input = c.wide.result * 65536 + c.wide-2.result * 256 + c.wide-3.result in
+    let input = c.from.result * 65536 + c.from-2.result * 256 + c.from-3.result in
     let input_is : input ≡ input_size (drop c.args.at c.args.set.now) =
-    omega (arith, c.wide.ensures, c.wide-2.ensures, c.wide-3.ensures, input_read c.args.set.now c.args.at) in
-    let expected_is : c.wide-expected.result ≡ expected_size (drop c.args.at c.args.set.now) =
-    c.wide-expected.ensures ∙ sym (expected_read c.args.set.now c.args.at _ (omega (arith, input_is))) in
+    omega (arith, c.from.ensures, c.from-2.ensures, c.from-3.ensures, input_read c.args.set.now c.args.at) in
+    let expected_is : c.from-expected.result ≡ expected_size (drop c.args.at c.args.set.now) =
+    c.from-expected.ensures ∙ sym (expected_read c.args.set.now c.args.at _ (omega (arith, input_is))) in
     at_whole _ _ c.if-at-set.false
     (omega (arith, input_is, expected_is, c.if-left-input-2.false, c.if-left-input.false))
     _ _ input_is expected_is
