@@ -7,20 +7,9 @@ ghost use Rattle.model.specs.Questions.{answer_number};
 ghost use Rattle.model.specs.Log.{log_answer};
 ghost use Rattle.memory.specs.Jobs.{job, job_before, job_after};
 ghost use Rattle.engine.specs.Reached.{IsJob};
-ghost use Rattle.day_log.specs.Running.{log_answer_of, Runs};
+ghost use Rattle.day_log.specs.Running.{Runs};
 
-use day_log::LogAnswer;
 use memory::{Memory, Words};
-
-// The number of a log's answer.
-fn log_number(answer: LogAnswer) -> u8
-    ensures { result ≡ answer_number (log_answer_of answer) }
-{
-    match answer {
-        LogAnswer::Whole => 0,
-        LogAnswer::BrokenEntry => 18,
-    }
-}
 
 // A log of any bytes, run entry after entry; the count of its refused calls goes behind `refusals`. Refused (18), the memory and the count
 // are as the entries before the broken one left them.
@@ -35,6 +24,5 @@ pub extern "C" fn jirvaldo_core_run_log(
     ensures answered { result ≡ answer_number (log_answer log.now) }
     ensures runs { Runs log.now (job_before memory words) refusals.new (job_after memory words) }
 {
-    let answer = day_log::run(memory, words, log, refusals);
-    log_number(answer)
+    refusals::number_of(day_log::run(memory, words, log, refusals))
 }

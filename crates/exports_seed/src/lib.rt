@@ -35,7 +35,7 @@ pub extern "C" fn jirvaldo_core_log_grant(workers: u64, log: &mut [u8], size: &m
     ensures { Writes (grant_sayable workers) (entry_bytes (grants workers)) log.old size.old
         log.new size.new result }
 {
-    log_writer::write_grant(workers, log, size)
+    refusals::number_of(log_writer::write_grant(workers, log, size))
 }
 
 // The entry of a tick with these choices. Refused (16 above 127 choices, 20 without room), the buffer and the size stay as they came.
@@ -44,7 +44,7 @@ pub extern "C" fn jirvaldo_core_log_tick(choices: &[u8], log: &mut [u8], size: &
     ensures { Writes (tick_sayable choices.now) (entry_bytes (ticks choices.now)) log.old
         size.old log.new size.new result }
 {
-    log_writer::write_tick(choices, log, size)
+    refusals::number_of(log_writer::write_tick(choices, log, size))
 }
 
 // The entry of the tick that the seed draws for the job's granted workers. Refused (20 without room), the buffer and the size stay as they
@@ -60,5 +60,5 @@ pub extern "C" fn jirvaldo_core_log_tick_seeded(
     ensures { Writes [] (seeded_entry words.now seed) log.old size.old log.new
         size.new result }
 {
-    log_writer::write_seeded(words, seed, log, size)
+    refusals::number_of(log_writer::write_seeded(words, seed, log, size))
 }
