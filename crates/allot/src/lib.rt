@@ -8,7 +8,7 @@ ghost use Rattle.allot.specs.Grants.{Joined, joining_deque, Joinable, joining_wi
 use memory::{Deque, Memory, Words};
 
 // The ring of muggable deques is its head and how many wait there, two numbers and no struct: a grant moves no head, and as a field each
-// step would hand it on and promise that it stays.
+// step would hand it on and promise that it stays. So `SameButEnds` is said at each step: what it leaves is no fact of one value.
 
 // A worker's deque joins the end of the muggable ones; an empty one vanishes. How many wait then. Their ring has 64 places: together with
 // the workers' non-empty deques they never number more (request U12), so what waits is never written over.

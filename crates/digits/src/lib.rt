@@ -7,6 +7,9 @@ ghost use Rattle.std.proofs.lemmas.List.Edits.{sets};
 ghost use Rattle.model.specs.Digits.{digit_count};
 ghost use Rattle.digits.specs.Spelling.{digit, pair, field, Spells};
 
+// The buffer and a place in it go on side by side, and each step asks for its room: the next place is a step's answer. A struct of the two
+// would be lent on to each step and moved by it, and the step would have to promise of it what it says of the place.
+
 // Puts the digit of a number below 10 at `at`.
 fn put_digit(buffer: &mut [u8], at: usize, n: u64)
     requires below_10 { n < 10 }

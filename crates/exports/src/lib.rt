@@ -1,7 +1,8 @@
 #![tactic(auto)]
 
 // The static library: a job in memory that the caller lends, for C and Rust, moved in place by `engine`. Each function answers with
-// document 01's number of the refusal, or 0.
+// document 01's number of the refusal, or 0. C lends two arrays and can lend no type with an invariant, so each function asks that they are
+// a job (`IsJob`, and of the words alone `JobWords`); and it takes a number for each answer.
 ghost use Rattle.std.specs.Prelude.{◌≡◌};
 ghost use Rattle.model.specs.Questions.{answer_number};
 ghost use Rattle.model.specs.Plan.{plan_answer};

@@ -2,6 +2,8 @@
 
 // The job record. It carries its plan: a call takes a count or choices and nothing else, and moves the record that it is lent. A thin layer
 // over the in-place core `engine`.
+// That the record comes from acceptance or an earlier call (`IsJob`) is asked by each call and no invariant of the type: the record is
+// memory's, two arrays that C lends as they are, and the theorems over chains of calls speak of it.
 ghost use Rattle.std.specs.Prelude.{◌≡◌, IfOk};
 ghost use Rattle.model.specs.Plan.{plan_answer};
 ghost use Rattle.model.specs.Machine.{grants, ticks, offers, opens, withdraws, call_answer, status};

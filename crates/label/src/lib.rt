@@ -29,6 +29,8 @@ impl Refusal for NoLine {
     }
 }
 
+// The sheet goes whole beside a place in it, and not as its rest from there: what is found is a place of the sheet.
+
 // How many of the 64 bytes at `at` are byte 10. It has no early exit, so that many bytes are looked at together.
 fn ends_in_block(sheet: &[u8], at: usize) -> u8
     requires { at + 64 ≤ length sheet.now }

@@ -64,6 +64,8 @@ impl Terms {
     }
 }
 
+// That the desire is that of its power (`Desired`) is asked of each: it is a fact of the plan's growth and of the job's wish together, and
+// the two are kept apart, the one as it was read and the other anew at each quantum's end.
 impl Wish {
     // "multiplied by R, unless that exceeds 64": the top desire stays.
     fn multiplied(self, responsiveness: usize) -> Wish

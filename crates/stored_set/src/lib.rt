@@ -13,7 +13,8 @@ use std::fmt::{Display, Formatter, Write};
 #[derive(Clone, Copy, Debug, PartialEq, Eq)]
 pub struct Cut;
 
-// What running a set counts: its cases, those that are as said, and whether nothing is left over.
+// What running a set counts: its cases, those that are as said, and whether nothing is left over: a flag and no error, since the counts of a
+// set that is cut off are told as well.
 #[derive(Clone, Copy, Debug, PartialEq, Eq)]
 pub struct SetTally {
     pub cases: u64,
@@ -74,7 +75,7 @@ fn as_said(input: &[u8], expected: &[u8]) -> bool
     program::run(input).as_slice() == expected
 }
 
-// Every case of a set, one after the other.
+// Every case of a set, one after the other, by a place: a reader of cases would have this loop's body for its one method.
 pub fn run(set: &[u8]) -> SetTally
     ensures { result ≡ tally_of (stored set.now) }
 {
