@@ -127,7 +127,8 @@ module _ (log : List ℕ) (job₀ : Job) where
         })
 
     -- the log ends here, with a broken entry or without
-    pub ends_here : (broken : Bool) {A : Type 0} (answer : Result A BrokenEntry) → entries (drop at log) ≡ record { calls = []; broken = broken } →
+    pub ends_here : (broken : Bool) {A : Type 0} (answer : Result A BrokenEntry) → entries (drop at log) ≡ record
+        { calls = []; broken = broken } →
         log_answer_of answer ≡ cond broken (refused 18) accepted →
         (log_answer_of answer ≡ log_answer log) × Runs log job₀ count job
     unfolding run_log log_answer
@@ -149,7 +150,8 @@ module _ (log : List ℕ) (job₀ : Job) where
 -- ---- after an entry
 
 -- 1 for a refused call, and 0 for an accepted one
-told_refused : (answer : Result (Unit {0}) CallRefusal) (told : Bool) → told ≡ is_err answer → bool_byte told ≡ refusals_in (answer_of answer)
+told_refused : (answer : Result (Unit {0}) CallRefusal) (told : Bool) → told ≡ is_err answer → bool_byte told ≡ refusals_in
+    (answer_of answer)
 told_refused (Ok done) told e = rw e refl
 told_refused (Err refusal) told e = rw e refl
 

@@ -18,7 +18,8 @@ use Rattle.program.specs.Output.{Prints}
 pub after_plan : (x : Answer) (output : List ℕ) (r : Output) → accepted ≡ x → Prints output r → Prints (output_by x output) r
 after_plan x output r e p = rw (← e) p
 
-pub refused_plan : (x : Answer) (n : ℕ) (output : List ℕ) (r : Output) → refused n ≡ x → Prints (refused_line n) r → Prints (output_by x output) r
+pub refused_plan : (x : Answer) (n : ℕ) (output : List ℕ) (r : Output) → refused n ≡ x → Prints (refused_line n) r → Prints
+    (output_by x output) r
 refused_plan x n output r e p = rw (← e) p
 
 -- ---- the input's questions

@@ -58,7 +58,8 @@ refusal_put at n b = sets_append b at word (field n 10) ∙ ap (sets b at) (sym 
 -- the word is copied, and the number put behind it
 pub word_put : (at room n : ℕ) (out : List ℕ) → at + 8 ≤ length out → room ≡ 8 →
     sets (put_mid at room out word) (at + 8) (field n 10) ≡ sets out at (refused_line n)
-word_put at room n out there is = ap (λ (l : List ℕ). sets l (at + 8) (field n 10)) (copied at room out word there is) ∙ refusal_put at n out
+word_put at room n out there is = ap (λ (l : List ℕ). sets l (at + 8) (field n 10)) (copied at room out word there is) ∙ refusal_put
+    at n out
 
 -- ---- the counters line
 

@@ -111,7 +111,8 @@ module _ (set : List ℕ) (at : ℕ) where
 
   says_there : (more : Bool) → ltb at (length set) ≡ more →
       Says set at
-      (cond more (cond (leb (case_size rest) (length set - at)) (Ok (Some (input_size rest, expected_size rest))) (Err (record {}))) (Ok None))
+      (cond more (cond (leb (case_size rest) (length set - at)) (Ok (Some (input_size rest, expected_size rest))) (Err (record {})))
+      (Ok None))
   unfolding stored stored_up_to
   says_there true e = says_by _ (ltb-true at (length set) e) refl
   says_there false e = rw (drop_of_length-le set (ltb-false at (length set) e))
@@ -121,7 +122,8 @@ module _ (set : List ℕ) (at : ℕ) where
   says placed e = rw e (says_there _ refl)
 
 -- a place that is read as a whole case has one
-pub whole_here : {set : List ℕ} {at input expected : ℕ} {placed : Placed} → placed ≡ Ok (Some (input, expected)) → placed ≡ placed_of set at →
+pub whole_here : {set : List ℕ} {at input expected : ℕ} {placed : Placed} → placed ≡ Ok (Some (input, expected)) → placed ≡
+    placed_of set at →
     CaseHere set at input expected
 whole_here {set} {at} {input} {expected} is read = says set at (Ok (Some (input, expected))) (sym is ∙ read)
 

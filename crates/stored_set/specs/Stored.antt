@@ -88,4 +88,5 @@ Placed = Result (Option (ℕ × ℕ)) Cut
 unfoldable pub placed_of : List ℕ → ℕ → Placed
 placed_of set at =
     let rest = drop at set in
-    cond (ltb at (length set)) (cond (leb (case_size rest) (length set - at)) (Ok (Some (input_size rest, expected_size rest))) (Err (record {}))) (Ok None)
+    cond (ltb at (length set)) (cond (leb (case_size rest) (length set - at)) (Ok (Some (input_size rest, expected_size rest)))
+    (Err (record {}))) (Ok None)

@@ -13,8 +13,8 @@ use std::fmt::{Display, Formatter, Write};
 #[derive(Clone, Copy, Debug, PartialEq, Eq)]
 pub struct Cut;
 
-// What running a set counts: its cases, those that are as said, and whether nothing is left over: a flag and no error, since the counts of a
-// set that is cut off are told as well.
+// What running a set counts: its cases, those that are as said, and whether nothing is left over: a flag and no error, since the counts of
+// a set that is cut off are told as well.
 #[derive(Clone, Copy, Debug, PartialEq, Eq)]
 pub struct SetTally {
     pub cases: u64,

@@ -23,7 +23,8 @@ one_read_more None b c filled room n buffer part within few before more = tt
 one_read_more (Some x) None c filled room n buffer part within few before more = absurd before
 one_read_more (Some x) (Some y) None filled room n buffer part within few before more = absurd more
 one_read_more (Some x) (Some y) (Some z) filled room n buffer part within few before more =
-    rw (put_behind filled room n buffer part within few) (before ∙ ap (λ l. take filled buffer ++ l) more ∙ sym (append_assoc (take filled buffer) (take n part) z))
+    rw (put_behind filled room n buffer part within few) (before ∙ ap (λ l. take filled buffer ++ l) more ∙ sym
+    (append_assoc (take filled buffer) (take n part) z))
 
 -- an interrupted read leaves what was there
 pub no_read_more : (a b c : Option (List ℕ)) (filled room : ℕ) (buffer part : List ℕ) → filled ≤ length buffer →

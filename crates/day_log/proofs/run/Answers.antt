@@ -22,7 +22,14 @@ tick-answer-requires c = still_job _ _ c.loop-entry.invariant.so_far c.requires
 pub overflow_add-refusals : goal.overflow_add-refusals
 overflow_add-refusals c =
     let l = c.loop-entry.invariant in
-    omega (arith, l.so_far.few, at_most_one c.is_err.result, c.from-in-Some.ensures, inside l.same_log l.so_far c.in-Some.entry c.in_ok-entry.ensures c.in-Some.is)
+    omega (
+      arith,
+      l.so_far.few,
+      at_most_one c.is_err.result,
+      c.from-in-Some.ensures,
+      inside l.same_log l.so_far c.in-Some.entry
+          c.in_ok-entry.ensures c.in-Some.is,
+    )
 
 pub loop-entry-smaller : goal.loop-entry-smaller
 loop-entry-smaller c =

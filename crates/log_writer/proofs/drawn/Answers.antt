@@ -19,5 +19,12 @@ loop-i-preserved c =
       long = length-set l.choices l.i c.choice_byte.result ∙ l.invariant.long;
       state = rw add-one (c.next-s.ensures ∙ ap next_seed l.invariant.state ∙ sym (seed_snoc l.i c.args.seed));
       put = take_more_set l.choices l.i c.choice_byte.result here
-          ∙ (rw (l.invariant.put, add-one, draws_snoc c.args.workers l.i c.args.seed, ← l.invariant.state, ← c.next-s.ensures, c.choice_byte.ensures) refl);
+          ∙ (rw (
+            l.invariant.put,
+            add-one,
+            draws_snoc c.args.workers l.i c.args.seed,
+            ← l.invariant.state,
+            ← c.next-s.ensures,
+            c.choice_byte.ensures,
+          ) refl);
     }

@@ -40,4 +40,5 @@ pub returns : goal.returns
 unfolding entry_bytes
 returns c =
     let choices = c.args.choices.now in
-    tick_written _ _ choices _ _ (sayable (length choices) 16 (omega arith)) c.in_ok-ask_room.ensures c.copy_from_slice.ensures.after (omega arith) refl
+    tick_written _ _ choices _ _ (sayable (length choices) 16 (omega arith)) c.in_ok-ask_room.ensures
+    c.copy_from_slice.ensures.after (omega arith) refl

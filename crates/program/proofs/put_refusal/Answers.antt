@@ -18,7 +18,8 @@ put_field-requires c =
     let eight : c.args.at + 8 - c.args.at ≡ 8 = omega arith in
     let kept : length (put_mid c.args.at (c.args.at + 8 - c.args.at) c.args.out.now c.copy_from_slice.new.self) ≡ length c.args.out.now =
     rw c.copy_from_slice.ensures.after
-    (ap length (copied c.args.at (c.args.at + 8 - c.args.at) c.args.out.now word there eight) ∙ length-sets c.args.out.now c.args.at word) in
+    (ap length (copied c.args.at (c.args.at + 8 - c.args.at) c.args.out.now word there eight) ∙ length-sets c.args.out.now c.args.at
+    word) in
     omega (arith, kept, c.requires, refused_long c.args.number, c.from.ensures, ap digit_count c.from.ensures)
 
 pub returns : goal.returns

@@ -19,7 +19,11 @@ pub slice_bounds-as_said-end : goal.slice_bounds-as_said-end
 slice_bounds-as_said-end c = omega (arith, (whole_here (c.in-Ok-Some.is ∙ ap Ok c.in-Ok-Some.field-0-is) c.case_at.ensures).inside)
 
 pub slice_bounds-as_said-end-in-Ok-Some : goal.slice_bounds-as_said-end-in-Ok-Some
-slice_bounds-as_said-end-in-Ok-Some c = omega (arith, (whole_here (c.in-Ok-Some.is ∙ ap Ok c.in-Ok-Some.field-0-is) c.case_at.ensures).inside)
+slice_bounds-as_said-end-in-Ok-Some c = omega (
+  arith,
+  (whole_here (c.in-Ok-Some.is ∙ ap Ok c.in-Ok-Some.field-0-is)
+      c.case_at.ensures).inside,
+)
 
 pub loop-input-smaller : goal.loop-input-smaller
 loop-input-smaller c = omega (arith, (whole_here (c.in-Ok-Some.is ∙ ap Ok c.in-Ok-Some.field-0-is) c.case_at.ensures).inside)
@@ -27,7 +31,8 @@ loop-input-smaller c = omega (arith, (whole_here (c.in-Ok-Some.is ∙ ap Ok c.in
 -- one case more
 pub loop-input-preserved : goal.loop-input-preserved
 loop-input-preserved c =
-    one_more _ _ _ _ c.loop-input.invariant _ _ _ _ _ _ _ (whole_here (c.in-Ok-Some.is ∙ ap Ok c.in-Ok-Some.field-0-is) c.case_at.ensures) refl refl refl
+    one_more _ _ _ _ c.loop-input.invariant _ _ _ _ _ _ _ (whole_here (c.in-Ok-Some.is ∙ ap Ok c.in-Ok-Some.field-0-is)
+    c.case_at.ensures) refl refl refl
     c.as_said.ensures (c.from-same.ensures ∙ counted_byte c.as_said.result)
 
 -- the set's end

@@ -11,7 +11,8 @@ loop-preserved g c =
           let few = w.in-Ok.ensures.bound.0 in
           rw w.filled-is (
             omega (arith, few, c.read.auto.buf),
-            one_read_more _ _ _ c.loop.filled _ w.in-Ok.n c.loop.buffer c.read.new.buf c.loop.invariant.0 few c.loop.invariant.1 w.in-Ok.ensures.bytes.0,
+            one_read_more _ _ _ c.loop.filled _ w.in-Ok.n c.loop.buffer c.read.new.buf c.loop.invariant.0 few c.loop.invariant.1
+                w.in-Ok.ensures.bytes.0,
           )
       | in-Err+else-ne w ↦
           rw w.filled-is (

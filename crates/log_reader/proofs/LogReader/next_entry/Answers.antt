@@ -1,6 +1,7 @@
 -- `log_reader::next` meets its contract: at each `return` the tests that led there say which case of `entry_of` holds.
 -- Assumes nothing.
-use Rattle.std.proofs.Common.{◌≡◌, ◌+◌, ◌-◌, ◌<◌, ◌≤◌, List, ℕ, Some, None, Ok, Err, false, ltb, length, get_or, drop, length-drop, Bor, refl, ap, ◌∙◌, arith}
+use Rattle.std.proofs.Common.{◌≡◌, ◌+◌, ◌-◌, ◌<◌, ◌≤◌, List, ℕ, Some, None, Ok, Err, false, ltb, length, get_or, drop, length-drop}
+use Rattle.std.proofs.Common.{Bor, refl, ap, ◌∙◌, arith}
 use Rattle.std.proofs.lemmas.List.{length-take-le}
 use borrow.Rule.Slice.PartAt.{sl_partˢ}
 use borrow.Author.Tests.{le-ltb, lt-ltb, le-leb, lt-leb}
@@ -34,7 +35,15 @@ module _ (r : LogReader) (byte : ℕ) (here : r.at < length r.log.now) (is : byt
       ap (λ (b : Bor (List ℕ)). length b.now) lent
       ∙ length-take-le count (drop (r.at + 1) r.log.now) (omega (arith, fits, counted, length-drop (r.at + 1) r.log.now)) in
       let read : Ok (Some (Tick choices)) ≡ entry_here r =
-      rw (lent, counted, ← is, lt-ltb r.at (length r.log.now) here, le-ltb byte 128 high, le-leb (byte - 128) (length r.log.now - (r.at + 1)) fits)
+      rw (
+        lent,
+        counted,
+        ← is,
+        lt-ltb r.at (length r.log.now) here,
+        le-ltb byte 128 high,
+        le-leb (byte - 128)
+            (length r.log.now - (r.at + 1)) fits,
+      )
       refl in
       rw long at (reads r (Ok (Some (Tick choices))) read)
 
