@@ -14,6 +14,7 @@ ghost use Rattle.exports.specs.Promises.{call_number, CallsWords, ShowsStatus, S
 
 use memory::{Memory, Words};
 use refusals::Refusal;
+use status::Status;
 
 // A plan of any bytes: the memory becomes its fresh job, whatever it held before. Refused, the memory stays as it came.
 #[unsafe(no_mangle)]
@@ -80,7 +81,8 @@ fn status_in(words: &Words) -> u8
     requires { JobWords words.now }
     ensures { ShowsStatus words.now result }
 {
-    u8::from(job::status_of(words))
+    let shown: Status = job::status_of(words);
+    u8::from(shown)
 }
 
 // The status of the job.

@@ -7,6 +7,7 @@ ghost use Rattle.engine.specs.Reached.{IsJob};
 use log_reader::{Entry, LogReader};
 use memory::Job;
 use refusals::Refusal;
+use status::Status;
 use std::io;
 
 const PLAN_A: [u8; 17] = [21, 64, 0, 8, 3, 128, 8, 2, 64, 24, 0, 64, 24, 0, 0, 0, 0];
@@ -83,7 +84,8 @@ fn contracts_alone() {
     let mut job = accepted.unwrap();
     let granted = job::grant(&mut job, 2);
     check::expect(refusals::number_of(granted) == 14);
-    check::expect(u8::from(job::job_status(&job)) == 0);
+    let shown: Status = job::job_status(&job);
+    check::expect(u8::from(shown) == 0);
 }
 
 fn main(rt: HostRuntime) -> io::Result<()> {

@@ -5,4 +5,4 @@ use Rattle.exports.proofs.status_in.Goals as goal
 
 pub returns : goal.returns
 returns c =
-    record { right = λ memory job. c.from.ensures ∙ c.status_of.ensures.right memory job }
+    record { right = λ memory job. c.from.ensures ∙ c.status_of-shown.ensures.right memory job }

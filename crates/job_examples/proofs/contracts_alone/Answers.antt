@@ -25,12 +25,12 @@ expect-requires-2 c =
     let accepts = rw c.unwrap-job.ensures at c.accept-accepted.ensures.accepts in
     eq-eqb c.number_of.result 14 (c.number_of.ensures ∙ ap answer_number (c.grant-granted.ensures.answered ∙ refused_14 accepts))
 
-pub job_status-requires : goal.job_status-requires
-job_status-requires c =
+pub job_status-shown-requires : goal.job_status-shown-requires
+job_status-shown-requires c =
     let accepts = rw c.unwrap-job.ensures at c.accept-accepted.ensures.accepts in
     onward (begun accepts plan_a_begins.0) c.grant-granted.ensures.moves
 
 pub expect-requires-3 : goal.expect-requires-3
 expect-requires-3 c =
     let accepts = rw c.unwrap-job.ensures at c.accept-accepted.ensures.accepts in
-    eq-eqb c.from.result 0 (c.from.ensures ∙ c.job_status.ensures ∙ still_fresh accepts c.grant-granted.ensures.moves)
+    eq-eqb c.from.result 0 (c.from.ensures ∙ c.job_status-shown.ensures ∙ still_fresh accepts c.grant-granted.ensures.moves)
