@@ -2,7 +2,7 @@
 // fields are private, and what stands here is all that can be done with a count: none (its default), one more, the number to show, and
 // adding it to the word that keeps its kind; the steal cycles of a tick are those of neither other kind. So adding one kind to another
 // cannot be written elsewhere. Like functions stand at each kind, since the form is one tuple struct each: a generic struct would be one
-// for all three, and a trait would need a way from a number to a count, by which one kind could be made of another.
+// for all three, and with a trait each kind would still say each of them.
 #![tactic(auto)]
 
 ghost use Rattle.std.specs.Prelude.{◌≡◌, ◌+◌, ◌-◌, ◌≤◌, ◌<◌, ◌^◌};

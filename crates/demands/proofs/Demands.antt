@@ -1,6 +1,6 @@
 -- Demands 2 and 3 over the jobs of a list of calls: `every_record`, which a stranger reads first. Each job of a chain is reached by the
 -- plan and the calls, refused ones included, and whatever job an accepted plan and calls reach has what the demands say.
--- The records of a chain, Accepts, Moves and Runs, are the very contracts wherever a job is held: of a record by value (`job::accept`,
+-- The records of a chain, Accepts, Moves and Runs, are the very contracts wherever a job is held: of a record (`job::accept`,
 -- `grant`, `offer`, `open`, `withdraw`, `tick`), of lent memory (`exports`, `exports_log`) and of what the program calls (`engine::accept`,
 -- `day_log::run`). An offer and a withdrawal of lent memory get the words alone, and what they promise is Moves with the memory at hand.
 -- Assumes nothing.

@@ -2,7 +2,8 @@
 
 // The in-place core of a job: acceptance, a grant, an offer with its opening and withdrawal, and a tick, each in the memory and the words
 // that are lent. Nothing is copied, and a call reads and writes the words that it needs.
-// The two stand apart, and not in one struct, as the C interface lends them; the crate `job` has the struct of both.
+// The two stand apart, and not in one struct, as the C interface lends them; the crate `job` has the struct of both. A call's answer and
+// its move are two clauses, since who calls cites the one or the other.
 ghost use Rattle.std.specs.Prelude.{◌≡◌};
 ghost use Rattle.model.specs.Plan.{plan_answer};
 ghost use Rattle.model.specs.Machine.{grants, ticks, offers, opens, withdraws, call_answer};

@@ -76,7 +76,7 @@ pub extern "C" fn jirvaldo_core_tick(memory: &mut Memory, words: &mut Words, cho
     refusals::number_of(engine::tick(memory, words, choices))
 }
 
-// The status that the words show.
+// The status that the words show, for the two calls that tell it or look it up.
 fn status_in(words: &Words) -> u8
     requires { JobWords words.now }
     ensures { ShowsStatus words.now result }

@@ -3,7 +3,7 @@
 // The job record. It carries its plan: a call takes a count or choices and nothing else, and moves the record that it is lent. A thin layer
 // over the in-place core `engine`.
 // That the record comes from acceptance or an earlier call (`IsJob`) is asked by each call and no invariant of the type: the record is
-// memory's, two arrays that C lends as they are, and the theorems over chains of calls speak of it.
+// memory's, of which the theorems over chains of calls speak, and a type around it would ask the same of who has one by these.
 ghost use Rattle.std.specs.Prelude.{◌≡◌, IfOk};
 ghost use Rattle.model.specs.Plan.{plan_answer};
 ghost use Rattle.model.specs.Machine.{grants, ticks, offers, opens, withdraws, call_answer, status};
@@ -79,7 +79,8 @@ pub fn tick(job: &mut Job, choices: &[u8]) -> Result<(), CallRefusal>
     engine::tick(&mut job.memory, &mut job.words, choices)
 }
 
-// The status that words show, whatever they are. Words without a task are no job's: they show as fresh and never as finished.
+// The status that words show, whatever they are. Words without a task are no job's: they show as fresh and never as finished. It asks
+// nothing, so that this is said of words that are no job's, too.
 #[tactic(auto, using(std::proofs::lemmas::Bool::Decides::nat_tests), unfolding(crate::specs::Status::shown_status))]
 fn shown_status(words: &Words) -> Status
     ensures { status_number result ≡ shown_status words.now }

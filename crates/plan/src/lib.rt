@@ -15,7 +15,7 @@ use growth::Growth;
 use memory::Memory;
 use plan_fields::{Form, Header, LASTING_TASK_BYTES, PlanRefusal, TASK_BYTES, TaskFields};
 
-// The plan's numbers.
+// The plan's numbers. A quantum's end goes by three of them too (`quantum::Terms`), which it takes from a job's words and not from here.
 #[derive(Clone, Copy)]
 pub struct Heading {
     pub growth: Growth,
@@ -34,7 +34,8 @@ fn note(memory: &mut Memory, s: usize)
     memory[at] += 1;
 }
 
-// The fields of the task t, of so many bytes as each task of the plan's form has.
+// The fields of the task t, of so many bytes as each task of the plan's form has: a constant, so that no branch on it is left. The bytes
+// are read at their places: that each is inside is proved, and a slice of them would be one more to say.
 #[tactic(auto, using(crate::proofs::Forms::three_or_more))]
 fn fields_of<const WIDTH: usize>(bytes: &[u8], t: usize) -> TaskFields
     requires { FieldsDue bytes.now t WIDTH }
@@ -47,7 +48,8 @@ fn fields_of<const WIDTH: usize>(bytes: &[u8], t: usize) -> TaskFields
     plan_fields::task_of([bytes[at], bytes[at + 1], bytes[at + 2]])
 }
 
-// Reads the task t of n: its questions, and where they pass its fields and its ticks, all of them left, into the memory.
+// Reads the task t of n: its questions, and where they pass its fields and its ticks, all of them left, into the memory. How far the memory
+// holds what the bytes say (`Due`) is a fact of the two together, and each step from there on asks it.
 fn read_task<const WIDTH: usize>(
     bytes: &[u8],
     t: usize,

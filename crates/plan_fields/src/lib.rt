@@ -91,7 +91,7 @@ impl Form {
 }
 
 // The header's fields, with the form's number as it was read, since taking bytes apart can't fail, and the number of tasks itself and not
-// one less.
+// one less. They are as wide as who asks `header_answer` may want them.
 #[derive(Clone, Copy)]
 pub struct Header {
     pub form: usize,
@@ -110,7 +110,7 @@ pub struct TaskFields {
     pub ticks: u8,
 }
 
-// Is it form 3's number?
+// Is it form 3's number? The header of an unknown form is taken apart as well, so that its parts are told this and no `Form`.
 #[tactic(auto, unfolding(model::specs::Plan::is_form, model::specs::Plan::form_with, model::specs::Plan::forms))]
 fn is_gentle(number: usize) -> bool
     ensures { result ≡ eqb number 3 }
@@ -220,7 +220,7 @@ pub fn task_of(bytes: [u8; 3]) -> TaskFields
     }
 }
 
-// The bytes of a task of form 2 taken apart: the last one is its ticks.
+// The bytes of a task of form 2 taken apart: those of a task, and a last one, its ticks.
 #[tactic(auto, unfolding(model::specs::Plan::number))]
 pub fn lasting_of(bytes: [u8; 4]) -> TaskFields
     ensures { TaskOf form_2 (number bytes 0 4) result }
@@ -242,7 +242,8 @@ fn last_used(first: usize, second: usize) -> usize
     if second == 0 { first } else { second }
 }
 
-// The task t of n has successors, and 7 and 8 pass. So it is with nearly every task: no branch tells one successor from two.
+// The task t of n has successors, and 7 and 8 pass. So it is with nearly every task: no branch tells one successor from two. The questions
+// are told fields, t and n, as their definitions are: t and n are the reader's of all tasks, and no part of a task.
 fn fits(f: TaskFields, t: usize, n: usize) -> bool
     ensures { IsTrue result ↔ ((1 ≤ f.count) × (first_no (pair_questions n t f.count f.first f.second) ≡ accepted)) }
 {

@@ -6,7 +6,8 @@ use log_reader::BrokenEntry;
 use memory::Words;
 use refusals::Refusal;
 
-// The first `size` of the bytes are printed. The longest output is a counters line and `refused 18`, 138 bytes. (a) No heap.
+// The first `size` of the bytes are printed. The longest output is a counters line and `refused 18`, 138 bytes. An array and a size: a line
+// and a number are put at their places in a lent slice, which bytes that grow one by one would not lend.
 #[derive(Clone, Copy)]
 pub struct Output {
     bytes: [u8; 256],

@@ -12,7 +12,8 @@ use counters::{Counters, TooSmall};
 use label::NoLine;
 use memory::{Job, Words};
 
-// The ten numbers of a job, off its words, with a log's count of refused calls, 0 without a log.
+// The ten numbers of a job, off its words, with a log's count of refused calls, 0 without a log. The words are C's, and that they fit the
+// narrower numbers follows from the laws: a `try_from` would need an answer for what can't be.
 #[tactic(auto, using(crate::proofs::Counted::words_in_range, crate::proofs::Counted::counted))]
 pub fn counters_of(words: &Words, refusals: u64) -> Counters
     requires { JobWords words.now }
