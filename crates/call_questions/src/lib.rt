@@ -106,18 +106,13 @@ fn all_below(choices: &[u8], workers: u8) -> bool
     below
 }
 
-// Questions 11 and 15 to 17. As many choices as workers are at most 64, so that the number of workers fits a byte where 17 is asked.
-#[tactic(auto, using(crate::proofs::Questions::questions), unfolding(crate::specs::Asked::tick_asked))]
+// Questions 11 and 15, which a seeded tick is asked too, and then 16 and 17. As many choices as workers are at most 64, so that the number
+// of workers fits a byte where 17 is asked.
 pub fn tick_answer(words: &Words, choices: &[u8]) -> Result<(), CallRefusal>
     requires { (numbers_in words.now).workers < 256 }
     ensures { answer_of result ≡ first_no (tick_asked words.now choices.now) }
 {
-    if words[memory::DONE] == words[memory::TASKS] {
-        return Err(CallRefusal::Finished);
-    }
-    if words[memory::OPEN] == 0 {
-        return Err(CallRefusal::NoQuantum);
-    }
+    seeded_answer(words)?;
     let workers = words[memory::WORKERS];
     if choices.len() as u64 != workers {
         return Err(CallRefusal::WrongChoiceCount);
@@ -137,8 +132,7 @@ pub fn seeded_answer(words: &Words) -> Result<(), CallRefusal>
     if words[memory::DONE] == tasks {
         return Err(CallRefusal::Finished);
     }
-    let open = words[memory::OPEN];
-    if open == 0 {
+    if words[memory::OPEN] == 0 {
         return Err(CallRefusal::NoQuantum);
     }
     Ok(())
