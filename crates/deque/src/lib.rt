@@ -12,6 +12,7 @@ ghost use Rattle.deque.specs.Releasing.{Releasable, Released, AllReleasable, All
 use memory::{Deque, Memory};
 
 // The deque at a place.
+// Each contract asks `place < 128`: C's layout makes a place a number, and a type for it would be made anew at each sum that gives one.
 #[tactic(auto, using(memory::proofs::Regions::deque_read))]
 pub fn deque_at(memory: &Memory, place: usize) -> Deque
     requires { place < 128 }
@@ -86,8 +87,9 @@ pub fn rob(memory: &mut Memory, thief: usize, victim: usize)
     put(memory, thief, Deque { front, size: taken });
 }
 
-// A predecessor of `task` was worked. If it was the last one that `task` awaited, `task` goes to the front of the deque. An unused field,
-// 0, is no task. A deque that stays is made anew from its parts: as a whole it would travel packed in one word.
+// A predecessor of `task` was worked. If it was the last one that `task` awaited, `task` goes to the front of the deque.
+// An unused successor field is 0, and no Option: the lent memory keeps it so, and task 0 is nobody's successor.
+// A deque that stays is made anew from its parts: as a whole it would travel packed in one word.
 pub fn release(memory: &mut Memory, task: u16, deque: Deque) -> Deque
     requires { Releasable (parts memory.old) task deque }
     ensures { Released (parts_before memory) task deque (parts_after memory) result }
@@ -118,6 +120,7 @@ pub fn release(memory: &mut Memory, task: u16, deque: Deque) -> Deque
 
 // A task with the successor fields `one` and `two` was worked: of the two tasks that became ready, the second goes to the front, then the
 // first before it.
+// A deque that stays is made anew from its parts, as in `release`: as a whole it would travel packed in one word.
 pub fn release_successors(memory: &mut Memory, one: u16, two: u16, deque: Deque) -> Deque
     requires { AllReleasable (parts memory.old) one two deque }
     ensures { AllReleased (parts_before memory) one two deque (parts_after memory) result }

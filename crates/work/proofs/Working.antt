@@ -27,12 +27,12 @@ use Rattle.memory.specs.declared.Deque.{Deque}
 use Rattle.memory.specs.Parts.{Parts, parts, span, ticks_at, left_at}
 use Rattle.memory.specs.Words.{Numbers}
 use Rattle.memory.specs.Graphs.{shown, successors_at, graph}
-use Rattle.memory.specs.View.{tasks_of, front_at, size_at, put_deque, put_part, deque_at, deques_view, ring_place, muggable_view}
+use Rattle.memory.specs.View.{tasks_of, ends_at, front_at, size_at, put_deque, put_part, deque_at, deques_view, ring_place, muggable_view}
 use Rattle.memory.specs.View.{left_view, view}
 use Rattle.memory.specs.Sound.{Kept, Sound, awaited, worked_in}
 use Rattle.memory.specs.Cycles.{after_work}
 use Rattle.memory.proofs.Executions.{same_execution, work_counted}
-use Rattle.memory.proofs.Regions.{first_at, second_at, next_at, ends_part_at, spans_at, store_spans, put_stored, front_stored}
+use Rattle.memory.proofs.Regions.{first_at, second_at, next_at, spans_at, store_spans, put_stored, front_stored}
 use Rattle.memory.proofs.Walks.{walk_front}
 use Rattle.lists.proofs.Tables.{table_set}
 use Rattle.memory.proofs.Views.{deque_at_is, deque_length, worker_at, workers_shown, muggable_at, left_shown, left_here, flags_shown}
@@ -370,13 +370,15 @@ module _ {p : Parts} {m : Numbers} {w : ℕ} (turn : WorkTurn p m w) where
 
 -- ---- in a memory, a tick
 
-module _ (memory : List ℕ) {m : Numbers} {w : ℕ} (turn : WorkTurn (parts memory) m w) where
-  -- the front task, as it stands there
+-- the worker's deque, as it is read
+module _ (memory : List ℕ) {m : Numbers} {w : ℕ} (turn : WorkTurn (parts memory) m w) {own : Deque}
+    (reads : own ≡ ends_at (parts memory).ends w) where
+  -- the front task
   abbrev task : ℕ
-  task = get_or memory (4096 + front_at w) 0
+  task = own.front
 
   here : task ≡ front_task (parts memory) w
-  here = ends_part_at memory (front_at w) (omega (arith, place turn))
+  here = ap (λ (d : Deque). d.front) reads
 
   pub task_inside : task < 1024
   task_inside = rw here (front_inside turn)
@@ -405,12 +407,12 @@ module _ (memory : List ℕ) {m : Numbers} {w : ℕ} (turn : WorkTurn (parts mem
       let more : 2 ≤ left_at (parts memory).spans (front_task (parts memory) w) = omega (arith, rw here at left_read, rw here at ne) in
       rw (tick_stored, here) (goes_on turn more)
 
-  pub last_ticked : its_span % span ≡ 1 → LastTick (parts memory) m w task (get_or memory (4096 + size_at w) 0) (parts stored)
+  pub last_ticked : its_span % span ≡ 1 → LastTick (parts memory) m w task own.size (parts stored)
   last_ticked one =
       record {
         turn = turn;
         in_front = here;
-        its_size = ends_part_at memory (size_at w) (omega (arith, place turn));
+        its_size = ap (λ (d : Deque). d.size) reads;
         last = sym left_read ∙ one;
         ticked = tick_stored;
       }

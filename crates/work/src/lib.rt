@@ -8,8 +8,9 @@ ghost use Rattle.work.specs.Works.{WorkTurn, LastTick, Worked};
 use memory::{Deque, Memory};
 
 // The front task of the worker's deque, one of so many there, had its last tick: it leaves, and its successors that became ready take its
-// place. A task with one successor comes first: where that one became ready, it is the new front and the size stays. Each way out stores
-// what it changes and no more, in place: each completed task comes through here, and the speed of that is compared.
+// place. Each completed task comes through here, and the speed of that is compared: so a task with one successor or none is told apart,
+// and each of its ways out stores front and size apart, and only what changes: where the one successor became ready, the size stays.
+// A successor field of 0 is none, and no Option: the lent memory keeps it so, and task 0 is nobody's successor.
 #[tactic(auto, using(crate::proofs::Working::completion_in_place))]
 fn complete(memory: &mut Memory, w: usize, task: usize, size: u16)
     requires { (p : Parts) × ((m : Numbers) × LastTick p m w task size (parts memory.old)) }
@@ -63,17 +64,14 @@ pub fn work_cycle(memory: &mut Memory, w: usize) -> u64
     ensures { (m : Numbers) → WorkTurn (parts_before memory) m w →
         Worked (parts_before memory) m w (parts_after memory) result }
 {
-    let front_at = memory::ENDS + 2 * w;
-    let size_at = memory::ENDS + (2 * w + 1);
-    let front = memory[front_at];
-    let size = memory[size_at];
-    let task = front as usize;
+    let deque = deque::deque_at(memory, w);
+    let task = deque.front as usize;
     let span_at = memory::SPANS + task;
     let span = memory[span_at];
     memory[span_at] = span - 1;
     if span % memory::SPAN != 1 {
         return 0;
     }
-    complete(memory, w, task, size);
+    complete(memory, w, task, deque.size);
     1
 }
