@@ -1,7 +1,7 @@
 -- The stored set of a second implementation: its cases one after the other, each an input's size in three bytes, the input, the size of
 -- what was printed in one byte, and what was printed. And what running the set counts.
 use Rattle.std.specs.Prelude.{Bool, true, false, cond, ◌&&◌, List, [], ◌∷◌, ℕ, zero, suc}
-use Rattle.std.specs.Prelude.{Option, Some, None, Result, Ok, Err, ◌+◌, ◌-◌, eqb, leb, ltb, length, get_or, take, drop}
+use Rattle.std.specs.Prelude.{Option, Some, None, Result, Ok, Err, ◌+◌, ◌-◌, eqb, leb, ltb, length, get_or, take, drop, codes}
 use Rattle.model.specs.Tests.{keep}
 use Rattle.model.specs.Plan.{number}
 use Rattle.model.specs.Program.{program}
@@ -78,6 +78,13 @@ verdict_of tally =
     cond tally.whole
     (cond (eqb tally.cases 0) NothingRan (cond (eqb tally.same tally.cases) AllAsSaid SomeOther))
     SetCut
+
+-- what is printed behind the counts
+abbrev pub verdict_text : Verdict → List ℕ
+verdict_text AllAsSaid = []
+verdict_text SomeOther = codes ": NOT ALL THE SAME"
+verdict_text SetCut = codes ": THE SET IS CUT OFF"
+verdict_text NothingRan = codes ": NOTHING RAN"
 
 -- ---- the case at a place of a set
 

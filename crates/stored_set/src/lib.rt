@@ -2,9 +2,9 @@
 // counts the cases of the set and those for which the program prints what is stored. `specs/Stored.antt` has the set's form.
 #![tactic(auto)]
 
-ghost use Rattle.std.specs.Prelude.{◌≡◌};
+ghost use Rattle.std.specs.Prelude.{◌≡◌, Some};
 ghost use Rattle.model.specs.Program.{program};
-ghost use Rattle.stored_set.specs.Stored.{same_bytes, placed_of, stored, tally_of, verdict_of};
+ghost use Rattle.stored_set.specs.Stored.{same_bytes, placed_of, stored, tally_of, verdict_of, verdict_text};
 
 use std::fmt;
 use std::fmt::{Display, Formatter, Write};
@@ -33,6 +33,8 @@ pub enum Verdict {
 
 // Behind the counts it is said only where something is wrong.
 impl Display for Verdict {
+    ghost output = { λ verdict. Some (verdict_text verdict) };
+
     fn fmt<W: Write>(&self, f: &mut Formatter<W>) -> fmt::Result {
         match self {
             Verdict::AllAsSaid => Ok(()),
@@ -54,9 +56,7 @@ fn case_at(set: &[u8], at: usize) -> Result<Option<(usize, usize)>, Cut>
     if left < 4 {
         return Err(Cut);
     }
-    let input = usize::from(set[at]) * 65536
-        + usize::from(set[at + 1]) * 256
-        + usize::from(set[at + 2]);
+    let input = u32::from_be_bytes([0, set[at], set[at + 1], set[at + 2]]) as usize;
     if left - 4 < input {
         return Err(Cut);
     }
@@ -82,7 +82,7 @@ pub fn run(set: &[u8]) -> SetTally
     let mut cases: u64 = 0;
     let mut same: u64 = 0;
     let mut at: usize = 0;
-    loop {
+    let whole = loop {
         match case_at(set, at) {
             Ok(Some((input, expected))) => {
                 let start = at + 3;
@@ -93,22 +93,11 @@ pub fn run(set: &[u8]) -> SetTally
                 cases += 1;
                 at = end;
             }
-            Err(Cut) => {
-                return SetTally {
-                    cases,
-                    same,
-                    whole: false,
-                };
-            }
-            Ok(None) => {
-                return SetTally {
-                    cases,
-                    same,
-                    whole: true,
-                };
-            }
+            Ok(None) => break true,
+            Err(Cut) => break false,
         }
-    }
+    };
+    SetTally { cases, same, whole }
 }
 
 // All as said only where some case ran, every one was the same and nothing is left over.
