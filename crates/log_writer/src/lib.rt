@@ -2,8 +2,8 @@
 
 // Request U13: entries of the day log, appended to a lent buffer of which the first `size` bytes are written. The definitions are model's
 // specs/Log.antt, and of the drawn choices its specs/Seeds.antt.
-// A buffer and its size are lent side by side: (a) as the C interface lends them.
-ghost use Rattle.std.specs.Prelude.{◌≡◌, [], ◌∷◌, suc, ◌+◌, ◌/◌, ◌%◌, ◌≤◌, ◌<◌, leb, length, take};
+// A buffer and its size are lent side by side, as the C interface lends them.
+ghost use Rattle.std.specs.Prelude.{◌≡◌, [], ◌∷◌, suc, ◌+◌, ◌/◌, ◌%◌, ◌≤◌, ◌<◌, leb, length};
 ghost use Rattle.model.specs.Questions.{answer_number, ask, first_no};
 ghost use Rattle.model.specs.Machine.{grants, ticks};
 ghost use Rattle.model.specs.Log.{entry_bytes, grant_sayable, tick_sayable};
@@ -56,19 +56,17 @@ fn choice_byte(s: u32, workers: u32) -> u8
     seed::choice(s, workers) as u8
 }
 
-// A drawn choice for each worker, and 0 behind them: a draw is the next state, and its choice.
-fn drawn(workers: u32, seed: u32) -> [u8; 64]
-    requires { workers ≤ 64 }
-    ensures long { length result ≡ 64 }
-    ensures choices { take workers result ≡ draws workers workers seed }
+// A drawn choice for each worker, in a slice of as many bytes: a draw is the next state, and its choice.
+fn draw(choices: &mut [u8], seed: u32)
+    requires { length choices.old ≤ 64 }
+    ensures { choices.new ≡ draws (length choices.old) (length choices.old) seed }
 {
-    let mut choices = [0u8; 64];
+    let workers = choices.len() as u32;
     let mut s = seed;
-    for i in 0..workers as usize {
+    for choice in choices.iter_mut() {
         s = seed::next(s);
-        choices[i] = choice_byte(s, workers);
+        *choice = choice_byte(s, workers);
     }
-    choices
 }
 
 // Appends a grant: its count, where 7 bits can say it, 14.
@@ -116,7 +114,10 @@ pub fn write_seeded(
     ensures { Writes [] (seeded_entry words.now seed)
         log.old size.old log.new size.new (answer_number (answer_of result)) }
 {
-    let workers = words[memory::WORKERS];
-    let choices = drawn(workers as u32, seed);
-    write_tick(&choices[..workers as usize], log, size)
+    let workers = words[memory::WORKERS] as usize;
+    // Room for the most workers, 64, of which as many bytes are used as are granted: memory is fixed.
+    let mut room = [0u8; 64];
+    let choices = &mut room[..workers];
+    draw(choices, seed);
+    write_tick(choices, log, size)
 }
