@@ -1,11 +1,6 @@
 -- Byte 10 in a stretch of the sheet, for the functions below `find`.
 use Rattle.std.specs.Prelude.{◌≡◌, List, ℕ, ◌≤◌, ◌<◌, length, get_or}
 
--- what counts for one byte: at most 1, and 0 for no byte 10
-pub record ByteCounted (byte count : ℕ) : Type 0 where
-  pub most : count ≤ 1
-  pub none : count ≡ 0 → byte ≡ 10 → ⊥
-
 -- no byte 10 stands from one place to before another
 pub record Passed (sheet : List ℕ) (from to : ℕ) : Type 0 where
   pub forward : from ≤ to

@@ -44,7 +44,8 @@ fn ends_in_block(sheet: &[u8], at: usize) -> u8
 }
 
 // The place after the blocks of 64 bytes from `from` on that have no byte 10.
-// The loop stays for speed: by `chunks_exact`, or by the kit's memchr, a label of short lines takes 1.2 to 1.8 times as long.
+// The loop stays for speed. Measured: by `chunks_exact` a sheet of short lines takes up to 1.45 times as long, by the kit's memchr 1.2 to
+// 2.1 times (for lines of 40 and 999 bytes memchr takes about half).
 fn pass_blocks(sheet: &[u8], from: usize) -> usize
     requires { from ≤ length sheet.now }
     ensures { Passed sheet.now from result }
@@ -101,6 +102,7 @@ fn line_end(sheet: &[u8], from: usize) -> usize
 }
 
 // Where the line of a status stands in the sheet. It reads no more than 63 bytes past that line's end.
+// The status is any number, and not a status type, which would ask more of who calls.
 // The loop, and an end that is a number, stay for speed: a `for` over `line_end(..)?` of an `Option` takes 1.4 times as long.
 pub fn find(sheet: &[u8], status: u8) -> Result<Stretch, NoLine>
     ensures answer { found_answer result ≡ label_answer sheet.now status }
@@ -123,7 +125,7 @@ pub fn find(sheet: &[u8], status: u8) -> Result<Stretch, NoLine>
     Err(NoLine)
 }
 
-// The wording of a status: the line's bytes where they stand in the sheet.
+// The wording of a status, any number as in `find`: the line's bytes where they stand in the sheet.
 pub fn wording<'a>(sheet: &'a [u8], status: u8) -> Result<&'a [u8], NoLine>
     ensures { IsWording sheet.entry status result }
 {
