@@ -42,7 +42,7 @@ impl<'a> LogReader<'a> {
 
     // The entry at the reader's place, past which the reader goes; or none, at the log's end. At the end and at a broken entry the reader
     // stays, and a further call answers the same.
-    // It is no `Iterator`: (a) a reader that stays gives its error again and again, and a loop over an iterator has to be known to end.
+    // It is no `Iterator`: a reader that stays gives its error again and again, and a loop over an iterator has to be known to end.
     pub fn next_entry(&mut self) -> Result<Option<Entry<'a>>, BrokenEntry>
         ensures { Reads self.old result self.new }
     {

@@ -1,4 +1,4 @@
--- `log_reader::next` meets its contract: at each `return` the tests that led there say which case of `entry_of` holds.
+-- `LogReader::next_entry` meets its contract: at each `return` the tests that led there say which case of `entry_of` holds.
 -- Assumes nothing.
 use Rattle.std.proofs.Common.{◌≡◌, ◌+◌, ◌-◌, ◌<◌, ◌≤◌, List, ℕ, Some, None, Ok, Err, false, ltb, length, get_or, drop, length-drop}
 use Rattle.std.proofs.Common.{Bor, refl, ap, ◌∙◌, arith}
