@@ -34,23 +34,13 @@ fn play(job: &mut Job, log: &[u8])
     }
 }
 
-// The first bytes of a buffer, on standard output.
-fn print_front(out: &impl Print, buffer: &[u8], size: usize) -> io::Result<()> {
-    if size <= buffer.len() {
-        out.write_all(&buffer[0..size])?;
-    }
-    Ok(())
-}
-
 // The counters line of a record.
 fn show_line(out: &impl Print, job: &Job) -> io::Result<()>
     requires { IsJob job.now }
 {
     let mut line = [0u8; 128];
-    if let Ok(size) = report::job_line(job, 0, &mut line) {
-        print_front(out, &line, size)?;
-    }
-    Ok(())
+    let size = report::job_line(job, 0, &mut line).unwrap_or(0);
+    out.write_all(line.get(..size).unwrap_or(&[]))
 }
 
 // The wording of a record's status, the part of the sheet itself: `refusal [bytes]`.
