@@ -65,12 +65,10 @@ fn end_by_bytes(sheet: &[u8], from: usize) -> usize
     requires { from ≤ length sheet.now }
     ensures { LineEnd sheet.now from result }
 {
-    for at in from..sheet.len() {
-        if sheet[at] == b'\n' {
-            return at;
-        }
+    match sheet[from..].iter().position(|byte| *byte == b'\n') {
+        Some(more) => from + more,
+        None => sheet.len(),
     }
-    sheet.len()
 }
 
 // The same, four bytes a step once the blocks without byte 10 are passed.
