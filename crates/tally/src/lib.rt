@@ -17,7 +17,7 @@ pub struct Tally {
 }
 
 impl Tally {
-    // One work cycle more, and so many tasks that it completed: 1 or 0, a number, since it is added faster than a flag is asked.
+    // One work cycle more, and so many tasks that it completed: 1 or 0, a number, for the reason beside `work_cycle` of the crate `work`.
     pub fn with_work(self, completed: u64) -> Tally
         requires growing { Growing self }
         requires one_at_most { completed ≤ 1 }

@@ -57,7 +57,8 @@ fn complete(memory: &mut Memory, w: usize, task: usize, size: u16)
 }
 
 // A work cycle takes one tick off the front task of the worker's deque. The task stays in front until its last tick, which completes it:
-// then the answer is 1, and else 0: a number and no bool, since the count of the tick's completed tasks adds it with no test.
+// then the answer is 1, and else 0. A number and no bool, which was tried: the benchmark's rows of work then take 5 to 15 in 100 more
+// instructions, since the flag is made anew from the ticks in each work cycle.
 #[tactic(auto, using(crate::proofs::Working::tick_in_place))]
 pub fn work_cycle(memory: &mut Memory, w: usize) -> u64
     requires { (m : Numbers) × WorkTurn (parts memory.old) m w }
