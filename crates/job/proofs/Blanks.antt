@@ -1,4 +1,4 @@
--- A job has a task, so that no memory makes the words of a refused plan's blank a job.
+-- A job has a task, so that no memory makes the words of the blank, zeros, a job.
 -- Assumes nothing.
 use mathlib.Core.Path.{◌≡◌, refl, sym, ap, ◌∙◌}
 use mathlib.Core.List.{List}

@@ -33,7 +33,7 @@ module _ (words : List ℕ) where
   pub status_of_job : {r : Status} → status_number r ≡ shown_status words → StatusOf words r
   status_of_job same = record { shown = same; right = λ memory job. same ∙ status_right memory job }
 
--- the blank of a refused plan shows as fresh, and not as finished
+-- the blank shows as fresh, and not as finished
 pub blank_status : shown_status blank_job.words ≡ 0
 unfolding blank_job
 blank_status = sym (none_shown blank_job.words refl)

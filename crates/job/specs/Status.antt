@@ -7,8 +7,8 @@ use Rattle.engine.specs.Reached.{IsJob}
 use Rattle.status.specs.declared.Status.{Status}
 use Rattle.status.specs.Number.{status_number}
 
--- The status that words show, whatever they are: model's `status`, asked of the words. Words without a task are no job's, as those of a
--- refused plan's blank: they show as fresh, 0, and never as finished.
+-- The status that words show, whatever they are: model's `status`, asked of the words. Words without a task are no job's, as the zeros
+-- are from which acceptance starts: they show as fresh, 0, and never as finished.
 unfoldable pub shown_status : List ℕ → ℕ
 shown_status words =
     let m = numbers_in words in
