@@ -47,13 +47,12 @@ fn show_line(out: &impl Print, job: &Job) -> io::Result<()>
 fn show_wording(out: &impl Print, job: &Job, sheet: &[u8]) -> io::Result<()>
     requires { IsJob job.now }
 {
-    match report::job_wording(job, sheet) {
-        Ok(part) => {
-            print!(out; "0 [")?;
-            out.write_all(part)?;
-        }
-        Err(missing) => print!(out; "{} [", missing.number())?,
-    }
+    let (refusal, part) = match report::job_wording(job, sheet) {
+        Ok(part) => (0, part),
+        Err(missing) => (missing.number(), missing.part),
+    };
+    print!(out; "{refusal} [")?;
+    out.write_all(part)?;
     println!(out; "]")
 }
 

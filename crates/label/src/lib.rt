@@ -5,7 +5,7 @@
 ghost use Rattle.std.specs.Prelude.{◌≡◌, ◌+◌, ◌≤◌, length};
 ghost use Rattle.model.specs.Label.{label, label_answer};
 ghost use Rattle.label.specs.Found.{no_line_number, found_answer, found_stretch};
-ghost use Rattle.label.specs.Wording.{IsWording};
+ghost use Rattle.label.specs.Wording.{no_wording_number, IsWording};
 ghost use Rattle.label.specs.Ends.{Passed, LineEnd};
 
 use refusals::Refusal;
@@ -26,6 +26,20 @@ impl Refusal for NoLine {
 
     fn number(self) -> u8 {
         19
+    }
+}
+
+// The sheet has no line of which a wording could be: 19, and the empty part at the sheet's start.
+#[derive(Clone, Copy, Debug, PartialEq, Eq)]
+pub struct NoWording<'a> {
+    pub part: &'a [u8],
+}
+
+impl<'a> Refusal for NoWording<'a> {
+    ghost number = { no_wording_number };
+
+    fn number(self) -> u8 {
+        NoLine.number()
     }
 }
 
@@ -123,10 +137,13 @@ pub fn find(sheet: &[u8], status: u8) -> Result<Stretch, NoLine>
     Err(NoLine)
 }
 
-// The wording of a status, any number as in `find`: the line's bytes where they stand in the sheet.
-pub fn wording<'a>(sheet: &'a [u8], status: u8) -> Result<&'a [u8], NoLine>
+// The wording of a status, any number as in `find`: the line's bytes where they stand in the sheet. Where the sheet has no such line, the
+// empty part at its start stands in the refusal.
+pub fn wording<'a>(sheet: &'a [u8], status: u8) -> Result<&'a [u8], NoWording<'a>>
     ensures { IsWording sheet.entry status result }
 {
-    let Stretch { start, size } = find(sheet, status)?;
-    Ok(&sheet[start..start + size])
+    match find(sheet, status) {
+        Ok(line) => Ok(&sheet[line.start..line.start + line.size]),
+        Err(_) => Err(NoWording { part: &sheet[..0] }),
+    }
 }

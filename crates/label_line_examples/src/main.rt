@@ -10,16 +10,15 @@ use std::io;
 
 // A status's number, place and wording: `refusal start size [bytes]`.
 fn show_label(out: &impl Print, sheet: &[u8], status: u8) -> io::Result<()> {
-    let wording = label::wording(sheet, status);
-    let refusal = match wording {
-        Ok(_) => 0,
-        Err(missing) => missing.number(),
+    let (refusal, part) = match label::wording(sheet, status) {
+        Ok(part) => (0, part),
+        Err(missing) => (missing.number(), missing.part),
     };
     match label::find(sheet, status) {
         Ok(Stretch { start, size }) => print!(out; "{refusal} {start} {size} [")?,
         Err(_) => print!(out; "{refusal} none [")?,
     }
-    out.write_all(wording.unwrap_or(b""))?;
+    out.write_all(part)?;
     println!(out; "]")
 }
 

@@ -9,7 +9,7 @@ ghost use Rattle.counters.specs.Line.{WritesLine};
 ghost use Rattle.report.specs.Shown.{CountersOf, shown_numbers};
 
 use counters::{Counters, TooSmall};
-use label::NoLine;
+use label::NoWording;
 use memory::{Job, Words};
 
 // The ten numbers of a job, off its words, with a log's count of refused calls, 0 without a log. The words are C's, and that they fit the
@@ -48,9 +48,10 @@ pub fn job_line(job: &Job, refusals: u64, buffer: &mut [u8]) -> Result<usize, To
     counters::write_line(counters_of(&job.words, refusals), buffer)
 }
 
-// The wording of a record's status: the part of the lent sheet itself, where it stands there.
+// The wording of a record's status: the part of the lent sheet itself, where it stands there. Where the sheet has no such line, the empty
+// part at its start stands in the refusal.
 #[tactic(auto, using(crate::proofs::Counted::of_record))]
-pub fn job_wording<'a>(job: &Job, sheet: &'a [u8]) -> Result<&'a [u8], NoLine>
+pub fn job_wording<'a>(job: &Job, sheet: &'a [u8]) -> Result<&'a [u8], NoWording<'a>>
     requires { IsJob job.now }
     ensures { IsWording sheet.entry (status (job_state job.now)) result }
 {

@@ -6,8 +6,8 @@ use Rattle.label.proofs.wording.Goals as goal
 
 pub overflow_add-result : goal.overflow_add-result
 overflow_add-result c =
-    omega (arith, part_within _ _ _ _ c.in_ok-start.ensures.stretch)
+    omega (arith, part_within _ _ _ _ c.in-Ok.ensures.stretch)
 
 pub slice_bounds-result-end : goal.slice_bounds-result-end
 slice_bounds-result-end c =
-    part_within _ _ _ _ c.in_ok-start.ensures.stretch
+    part_within _ _ _ _ c.in-Ok.ensures.stretch
