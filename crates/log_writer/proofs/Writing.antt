@@ -4,25 +4,33 @@
 use mathlib.Core.Path.{◌≡◌, refl, sym, ap, ◌∙◌}
 use mathlib.Core.Bool.{Bool, true, false, cond}
 use mathlib.Core.List.{List, [], ◌∷◌, ◌++◌, append_assoc}
-use Prim.Native.Nat.{ℕ, ◌+◌, ◌≤◌, ◌<◌}
+use Prim.Native.Nat.{ℕ, suc, ◌+◌, ◌-◌, ◌≤◌, ◌<◌}
 use native.Mathlib.Numerals.{add-one}
 use native.Mathlib.Omega.{arith}
 use lib.Dec.{leb, ltb}
 use lib.ListN.{length, take, drop, set, length-append, length-set}
 use lib.Seq.{drop-drop, sets, sets-eq, length-sets, length-take-le, take_at}
+use Rattle.std.proofs.lemmas.List.{length-drop}
 use borrow.Rule.Slice.PartMut.{put_mid}
 use borrow.Author.Tests.{le-leb, lt-leb, leb-true, ltb-true}
 use Rattle.model.specs.Tests.{every}
 use Rattle.model.specs.Questions.{Question, Answer, accepted, refused, ask, first_no, answer_number}
-use Rattle.model.specs.Log.{append_answer, tick_sayable}
+use Rattle.model.specs.Log.{append_answer}
 use Rattle.lists.proofs.Tests.{and_left, and_right}
 use Rattle.lists.proofs.Lists.{every_append}
 use Rattle.lists.proofs.Questions.{and_then, first_no_append, second_accepted, ask_accepted}
 use Rattle.log_writer.specs.Writing.{Writes}
 
+-- room for so many bytes, as it is asked
+abbrev pub room_for : List ℕ → ℕ → ℕ → Answer
+room_for buffer size more = first_no (ask (leb (size + more) (length buffer)) 20 ∷ [])
+
+pub room_given : (buffer : List ℕ) (size more : ℕ) → accepted ≡ room_for buffer size more → size + more ≤ length buffer
+room_given buffer size more there = leb-true _ _ (ask_accepted (leb (size + more) (length buffer)) 20 [] (sym there)).0
+
 module _ (questions : List Question) (entry buffer : List ℕ) (size : ℕ) where
   abbrev room_answer : Answer
-  room_answer = first_no (ask (leb (size + length entry) (length buffer)) 20 ∷ [])
+  room_answer = room_for buffer size (length entry)
 
   -- past its questions an entry is asked for room alone
   room_asked : first_no questions ≡ accepted → append_answer questions entry buffer size ≡ room_answer
@@ -38,7 +46,7 @@ module _ (questions : List Question) (entry buffer : List ℕ) (size : ℕ) wher
   no_room passed full = refusal (room_asked passed ∙ sym full)
 
   pub room_there : accepted ≡ room_answer → size + length entry ≤ length buffer
-  room_there there = leb-true _ _ (ask_accepted (leb (size + length entry) (length buffer)) 20 [] (sym there)).0
+  room_there = room_given buffer size (length entry)
 
   has_room : append_answer questions entry buffer size ≡ accepted → size + length entry ≤ length buffer
   unfolding append_answer
@@ -65,7 +73,16 @@ put_behind first bytes buffer size room there is =
     ∙ append_assoc (take (size + 1) b) bytes (drop (size + 1 + length bytes) b)
     ∙ (rw (is, drop-drop (length bytes) (size + 1) b) refl))
 
--- a tick's entry: its first byte is put, and the choices are copied to the place after it
+-- the places of so many bytes behind one that was put
+pub behind_long : (first count : ℕ) (buffer : List ℕ) (size : ℕ) → size + suc count ≤ length buffer →
+    length (take (size + 1 + count - (size + 1)) (drop (size + 1) (set buffer size first))) ≡ count
+behind_long first count buffer size there =
+    let b = set buffer size first in
+    let long : length (drop (size + 1) b) ≡ length buffer - (size + 1) =
+    length-drop (size + 1) b ∙ ap (λ (n : ℕ). n - (size + 1)) (length-set buffer size first) in
+    length-take-le (size + 1 + count - (size + 1)) (drop (size + 1) b) (omega (arith, long, there)) ∙ omega arith
+
+-- a tick's entry: its first byte is put, and the choices are put to the places after it
 pub tick_written : (questions : List Question) (first : ℕ) (choices buffer : List ℕ) (size : ℕ) → first_no questions ≡ accepted →
     accepted ≡ room_answer questions (first ∷ choices) buffer size → {copied : List ℕ} {room size' : ℕ} → copied ≡ choices →
     room ≡ length choices → size' ≡ size + 1 + length choices →
@@ -86,15 +103,6 @@ unsayable k n entry buffer size above = refusal (ask (leb k 127) n ∷ []) entry
 pub sayable : (k n : ℕ) → k ≤ 127 → first_no (ask (leb k 127) n ∷ []) ≡ accepted
 unfolding first_no
 sayable k n within = rw (le-leb k 127 within) refl
-
--- a question that 7 bits always answer need not be asked
-pub always_sayable : (choices entry : List ℕ) {buffer : List ℕ} {size : ℕ} {buffer' : List ℕ} {size' number : ℕ} → length choices ≤ 127 →
-    Writes (tick_sayable choices) entry buffer size buffer' size' number → Writes [] entry buffer size buffer' size' number
-unfolding append_answer first_no
-always_sayable choices entry {buffer} {size} few w =
-    let same : append_answer (tick_sayable choices) entry buffer size ≡ append_answer [] entry buffer size =
-    rw (le-leb (length choices) 127 few) refl in
-    record { answered = rw same at w.answered; left = rw same at w.left; counted = rw same at w.counted }
 
 -- ---- what a reader has of it
 

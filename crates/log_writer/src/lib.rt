@@ -56,6 +56,17 @@ fn choice_byte(s: u32, workers: u32) -> u8
     seed::choice(s, workers) as u8
 }
 
+// The choices, each at its place in a slice of as many bytes. They are few: the slice's `copy_from_slice` takes up to 1.6 times the
+// instructions, and the static library would need `memmove` for it.
+fn put_choices(choices: &[u8], places: &mut [u8])
+    requires { length places.old ≡ length choices.now }
+    ensures { places.new ≡ choices.now }
+{
+    for i in 0..choices.len() {
+        places[i] = choices[i];
+    }
+}
+
 // A drawn choice for each worker, in a slice of as many bytes: a draw is the next state, and its choice.
 fn draw(choices: &mut [u8], seed: u32)
     requires { length choices.old ≤ 64 }
@@ -98,7 +109,7 @@ pub fn write_tick(choices: &[u8], log: &mut [u8], size: &mut usize) -> Result<()
     let start = at + 1;
     let end = start + count;
     log[at] = 128 + count as u8;
-    log[start..end].copy_from_slice(choices);
+    put_choices(choices, &mut log[start..end]);
     *size = end;
     Ok(())
 }
@@ -115,9 +126,12 @@ pub fn write_seeded(
         log.old size.old log.new size.new (answer_number (answer_of result)) }
 {
     let workers = words[memory::WORKERS] as usize;
-    // Room for the most workers, 64, of which as many bytes are used as are granted: memory is fixed.
-    let mut room = [0u8; 64];
-    let choices = &mut room[..workers];
-    draw(choices, seed);
-    write_tick(choices, log, size)
+    let at = *size;
+    ask_room(log.len(), at, workers)?;
+    let start = at + 1;
+    let end = start + workers;
+    log[at] = 128 + workers as u8;
+    draw(&mut log[start..end], seed);
+    *size = end;
+    Ok(())
 }

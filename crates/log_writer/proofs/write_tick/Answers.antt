@@ -32,8 +32,8 @@ overflow_add-end c = omega (arith, room_there [] (0 ∷ c.args.choices.now) _ _ 
 pub bounds-log-at : goal.bounds-log-at
 bounds-log-at c = omega (arith, room_there [] (0 ∷ c.args.choices.now) _ _ c.in_ok-ask_room.ensures)
 
-pub slice_bounds-copy_from_slice-end : goal.slice_bounds-copy_from_slice-end
-slice_bounds-copy_from_slice-end c =
+pub slice_bounds-put_choices-end : goal.slice_bounds-put_choices-end
+slice_bounds-put_choices-end c =
     let there = room_there [] (0 ∷ c.args.choices.now) _ _ c.in_ok-ask_room.ensures in rw length-set (omega (arith, there))
 
 pub returns : goal.returns
@@ -41,4 +41,4 @@ unfolding entry_bytes
 returns c =
     let choices = c.args.choices.now in
     tick_written _ _ choices _ _ (sayable (length choices) 16 (omega arith)) c.in_ok-ask_room.ensures
-    c.copy_from_slice.ensures.after (omega arith) refl
+    c.put_choices.ensures (omega arith) refl
