@@ -1,6 +1,6 @@
 -- Demand 3's list of calls over the very jobs: the first call gets the plan's fresh record, each later one what the call before left. A
 -- chain is made of what the functions promise of the job before them and the job after them, accepted or refused, whoever holds the job: a
--- record by value, lent memory, or the program. Nothing here speaks of a history.
+-- record of its own, lent memory, or the program. Nothing here speaks of a history.
 use Rattle.std.specs.Prelude.{◌≡◌, List, [], ◌∷◌, ◌++◌, ℕ}
 use Rattle.model.specs.Questions.{accepted, refused}
 use Rattle.model.specs.Plan.{plan_answer}

@@ -37,7 +37,7 @@ impl Output {
     }
 
     // The counters line of a job's words, and after a broken log `refused 18`.
-    pub fn ran(words: &Words, refusals: u64, answer: Result<(), BrokenEntry>) -> Output
+    pub(super) fn ran(words: &Words, refusals: u64, answer: Result<(), BrokenEntry>) -> Output
         requires { JobWords words.now }
         ensures { PrintsRan words.now refusals answer result }
     {

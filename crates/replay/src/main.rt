@@ -1,5 +1,6 @@
 // The program of document 01: standard input, with plan length, plan and log, to standard output. `program::run` has the promise of the
-// bytes, `replay` that it is they that are read and written. A failed read or write ends it with the error.
+// bytes, `replay` that it is they that are read and written, where a reader's bytes and a writer's contents are known: of standard input
+// and output no contract can say it. A failed read or write ends it with the error.
 #![tactic(auto)]
 
 ghost use Rattle.std.specs.Prelude.{IfSome, OnOk};
