@@ -20,12 +20,10 @@ pub returns-in_err-ask_room : goal.returns-in_err-ask_room
 unfolding entry_bytes first_no
 returns-in_err-ask_room c =
     let workers = get_or c.args.words.now 1 0 in
-    let choices = draws workers workers c.args.seed in
-    let long : length choices ≡ workers = draws_length workers workers c.args.seed in
     let told = err_from_is_err_and c.from_residual.result c.from_residual.ensures.1 in
     rw (told.1, told.2)
-    (no_room [] ((128 + length choices) ∷ choices) c.args.log.now c.args.size.now refl
-    (c.in_err-ask_room.ensures ∙ ap (λ (n : ℕ). room_for c.args.log.now c.args.size.now (suc n)) (sym long)))
+    (no_room [] _ c.args.log.now c.args.size.now refl
+    (c.in_err-ask_room.ensures ∙ ap (λ (n : ℕ). room_for c.args.log.now c.args.size.now (suc n)) (sym (draws_length workers workers _))))
 
 pub overflow_add-start : goal.overflow_add-start
 overflow_add-start c = omega (arith, room_given _ _ _ c.in_ok-ask_room.ensures)
