@@ -15,7 +15,7 @@ use borrow.Rule.Slice.PartMut.{put_mid}
 use borrow.Author.Tests.{le-leb, lt-leb, leb-true, ltb-true}
 use Rattle.model.specs.Tests.{every}
 use Rattle.model.specs.Questions.{Question, Answer, accepted, refused, ask, first_no, answer_number}
-use Rattle.model.specs.Log.{append_answer}
+use Rattle.model.specs.Log.{append_answer, tick_sayable}
 use Rattle.lists.proofs.Tests.{and_left, and_right}
 use Rattle.lists.proofs.Lists.{every_append}
 use Rattle.lists.proofs.Questions.{and_then, first_no_append, second_accepted, ask_accepted}
@@ -103,6 +103,15 @@ unsayable k n entry buffer size above = refusal (ask (leb k 127) n ∷ []) entry
 pub sayable : (k n : ℕ) → k ≤ 127 → first_no (ask (leb k 127) n ∷ []) ≡ accepted
 unfolding first_no
 sayable k n within = rw (le-leb k 127 within) refl
+
+-- a question that 7 bits always answer need not be asked
+pub always_sayable : (choices entry : List ℕ) {buffer : List ℕ} {size : ℕ} {buffer' : List ℕ} {size' number : ℕ} → length choices ≤ 127 →
+    Writes (tick_sayable choices) entry buffer size buffer' size' number → Writes [] entry buffer size buffer' size' number
+unfolding append_answer first_no
+always_sayable choices entry {buffer} {size} few w =
+    let same : append_answer (tick_sayable choices) entry buffer size ≡ append_answer [] entry buffer size =
+    rw (le-leb (length choices) 127 few) refl in
+    record { answered = rw same at w.answered; left = rw same at w.left; counted = rw same at w.counted }
 
 -- ---- what a reader has of it
 

@@ -17,7 +17,6 @@ pub struct Output {
 
 impl Output {
     ghost use Rattle.model.specs.Program.{refused_line};
-    ghost use Rattle.engine.specs.Reached.{JobWords};
     ghost use Rattle.program.specs.Output.{Prints, PrintsRan};
 
     // The bytes that are printed.
@@ -36,9 +35,8 @@ impl Output {
         Output { bytes, size }
     }
 
-    // The counters line of a job's words, and after a broken log `refused 18`.
-    pub(super) fn ran(words: &Words, refusals: u64, answer: Result<(), BrokenEntry>) -> Output
-        requires { JobWords words.now }
+    // The counters line of a job's words, and after a broken log `refused 18`. It asks nothing: of other words, nothing is said.
+    pub fn ran(words: &Words, refusals: u64, answer: Result<(), BrokenEntry>) -> Output
         ensures { PrintsRan words.now refusals answer result }
     {
         let mut bytes = [0u8; 256];

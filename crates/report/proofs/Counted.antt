@@ -1,8 +1,12 @@
 -- The ten numbers that are taken off a job's words are model's, whatever memory makes the words a job.
 -- Assumes nothing.
-use mathlib.Core.Path.{refl, sym}
+use mathlib.Core.Path.{◌≡◌, refl, sym, ◌∙◌}
 use mathlib.Core.List.{List}
-use Prim.Native.Nat.{ℕ}
+use Prim.Native.Nat.{ℕ, ◌≤◌}
+use native.Mathlib.Omega.{arith}
+use Rattle.std.specs.Prelude.{bit_and}
+use Rattle.std.proofs.Math.Nat.{mod-eq_of_lt}
+use Rattle.std.proofs.lemmas.Grind.{and_numeral}
 use Rattle.model.specs.Counters.{counters}
 use Rattle.memory.specs.declared.Job.{Job}
 use Rattle.memory.specs.Words.{numbers_in, desire_in}
@@ -46,4 +50,40 @@ counted words refusals of =
     record {
       right = λ memory job.
           rw (sym (of.right memory job), sym job.2.kept.done_right, tasks_shown, workers_shown) refl;
+    }
+
+-- ---- taken off words that need not be a job's
+
+-- of the numbers that are shown as narrower ones the low bits
+abbrev pub low_ten_of : List ℕ → ℕ → Status → Counters
+low_ten_of words refusals s =
+    let m = numbers_in words in
+    record {
+      status = s;
+      worked = bit_and m.done 65535;
+      tasks = bit_and m.tasks 65535;
+      desire = bit_and (desire_in words) 255;
+      allotment = bit_and m.workers 255;
+      work = m.works;
+      mug = m.mugs;
+      steal = m.steals;
+      successes = m.successes;
+      refusals = refusals;
+    }
+
+-- a small number is its low bits
+low_16 : {n : ℕ} → n ≤ 1024 → bit_and n 65535 ≡ n
+low_16 {n} small = and_numeral n 65534 refl ∙ mod-eq_of_lt (omega (arith, small))
+
+low_8 : {n : ℕ} → n ≤ 64 → bit_and n 255 ≡ n
+low_8 {n} small = and_numeral n 254 refl ∙ mod-eq_of_lt (omega (arith, small))
+
+-- of a job's words they are the numbers themselves
+pub low_counted : (words : List ℕ) (refusals : ℕ) {s : Status} → StatusOf words s → CountersOf words refusals (low_ten_of words refusals s)
+low_counted words refusals of =
+    record {
+      right = λ memory job.
+          let fits = words_in_range words (memory, job) in
+          rw (low_16 fits.done_fits, low_16 fits.tasks_fit, low_8 fits.desire_fits, low_8 fits.workers_fit)
+          ((counted words refusals of).right memory job);
     }

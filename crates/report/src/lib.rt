@@ -3,7 +3,7 @@
 // What a buyer is shown of a job record: the wording of its status, and its counters line.
 ghost use Rattle.model.specs.Machine.{status};
 ghost use Rattle.memory.specs.Jobs.{job_state};
-ghost use Rattle.engine.specs.Reached.{IsJob, JobWords};
+ghost use Rattle.engine.specs.Reached.{IsJob};
 ghost use Rattle.label.specs.Wording.{IsWording};
 ghost use Rattle.counters.specs.Line.{WritesLine};
 ghost use Rattle.report.specs.Shown.{CountersOf, shown_numbers};
@@ -12,18 +12,17 @@ use counters::{Counters, TooSmall};
 use label::NoWording;
 use memory::{Job, Words};
 
-// The ten numbers of a job, off its words, with a log's count of refused calls, 0 without a log. The words are C's, and that they fit the
-// narrower numbers follows from the laws: a `try_from` would need an answer for what can't be.
-#[tactic(auto, using(crate::proofs::Counted::words_in_range, crate::proofs::Counted::counted))]
+// The ten numbers of a job, off its words, with a log's count of refused calls, 0 without a log. It asks nothing. The words are C's, and
+// that a job's fit the narrower numbers follows from the laws; of others the low bits are taken, and nothing is said.
+#[tactic(auto, using(crate::proofs::Counted::low_counted))]
 pub fn counters_of(words: &Words, refusals: u64) -> Counters
-    requires { JobWords words.now }
     ensures { CountersOf words.now refusals result }
 {
     let status = job::status_of(words);
-    let worked = words[memory::DONE] as u16;
-    let tasks = words[memory::TASKS] as u16;
-    let desire = words[memory::DESIRE] as u8;
-    let allotment = words[memory::WORKERS] as u8;
+    let worked = (words[memory::DONE] & 0xffff) as u16;
+    let tasks = (words[memory::TASKS] & 0xffff) as u16;
+    let desire = (words[memory::DESIRE] & 0xff) as u8;
+    let allotment = (words[memory::WORKERS] & 0xff) as u8;
     Counters {
         status,
         worked,
@@ -40,7 +39,6 @@ pub fn counters_of(words: &Words, refusals: u64) -> Counters
 
 // Writes a record's counters line at the start of a buffer of 128 bytes or more, and answers how many bytes it has; a smaller buffer stays
 // as it is.
-#[tactic(auto, using(crate::proofs::Counted::of_record))]
 pub fn job_line(job: &Job, refusals: u64, buffer: &mut [u8]) -> Result<usize, TooSmall>
     requires { IsJob job.now }
     ensures { WritesLine (shown_numbers job.now refusals) buffer.old buffer.new result }
@@ -50,7 +48,6 @@ pub fn job_line(job: &Job, refusals: u64, buffer: &mut [u8]) -> Result<usize, To
 
 // The wording of a record's status: the part of the lent sheet itself, where it stands there. Where the sheet has no such line, the empty
 // part at its start stands in the refusal.
-#[tactic(auto, using(crate::proofs::Counted::of_record))]
 pub fn job_wording<'a>(job: &Job, sheet: &'a [u8]) -> Result<&'a [u8], NoWording<'a>>
     requires { IsJob job.now }
     ensures { IsWording sheet.entry (status (job_state job.now)) result }

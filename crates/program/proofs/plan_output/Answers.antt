@@ -1,7 +1,7 @@
 -- `program::plan_output` meets its contract: a refused plan's number, or what the log left of the fresh job. Assumes nothing.
 use mathlib.Core.Path.{sym}
 use Rattle.program.proofs.Asked.{refused_plan, after_plan}
-use Rattle.program.proofs.Ran.{its_job, job_left, log_printed}
+use Rattle.program.proofs.Ran.{its_job, log_printed}
 use Rattle.program.proofs.plan_output.Goals as goal
 
 pub returns-in-Err : goal.returns-in-Err
@@ -9,9 +9,6 @@ returns-in-Err c = refused_plan _ _ _ _ c.in-Err.ensures.answered c.refused.ensu
 
 pub run-ran-requires : goal.run-ran-requires
 run-ran-requires c = its_job c.accept.ensures.accepts (sym c.in_default.ensures.answered)
-
-pub ran-requires : goal.ran-requires
-ran-requires c = (_, job_left c.accept.ensures.accepts (sym c.in_default.ensures.answered) c.run-ran.ensures.runs)
 
 pub returns : goal.returns
 returns c =
