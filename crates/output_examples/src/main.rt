@@ -28,7 +28,7 @@ fn main(rt: HostRuntime) -> io::Result<()> {
     }
     // of words of zeros
     show(&rt, &[0; memory::WORD_COUNT], 0, Ok(()))?;
-    // the longest output
+    // the longest output, of the largest numbers; one piece is not worked, so that they do not say of themselves that they are finished
     let mut most = [u64::MAX; memory::WORD_COUNT];
     most[memory::DONE] = u64::MAX - 1;
     show(&rt, &most, u64::MAX, Err(BrokenEntry))

@@ -19,22 +19,26 @@ use Rattle.engine.proofs.Known.{in_range}
 use Rattle.job.specs.Status.{StatusOf}
 use Rattle.report.specs.Shown.{CountersOf}
 
--- the numbers of a job, with a status
-abbrev pub ten_of : List ℕ → ℕ → Status → Counters
-ten_of words refusals s =
+-- the numbers of words, with a status; the four that are shown narrower, of 16 bits and of 8, as they are taken
+abbrev pub ten_by : (ℕ → ℕ) → (ℕ → ℕ) → List ℕ → ℕ → Status → Counters
+ten_by of_16 of_8 words refusals s =
     let m = numbers_in words in
     record {
       status = s;
-      worked = m.done;
-      tasks = m.tasks;
-      desire = desire_in words;
-      allotment = m.workers;
+      worked = of_16 m.done;
+      tasks = of_16 m.tasks;
+      desire = of_8 (desire_in words);
+      allotment = of_8 m.workers;
       work = m.works;
       mug = m.mugs;
       steal = m.steals;
       successes = m.successes;
       refusals = refusals;
     }
+
+-- the numbers of a job, as they are
+abbrev pub ten_of : List ℕ → ℕ → Status → Counters
+ten_of = ten_by (λ n. n) (λ n. n)
 
 -- a record's words are a job's, at its own memory
 pub of_record : (job : Job) → IsJob job → JobWords job.words
@@ -54,22 +58,9 @@ counted words refusals of =
 
 -- ---- taken off words that need not be a job's
 
--- of the numbers that are shown as narrower ones the low bits
+-- the numbers of words, their low bits where they are shown narrower
 abbrev pub low_ten_of : List ℕ → ℕ → Status → Counters
-low_ten_of words refusals s =
-    let m = numbers_in words in
-    record {
-      status = s;
-      worked = bit_and m.done 65535;
-      tasks = bit_and m.tasks 65535;
-      desire = bit_and (desire_in words) 255;
-      allotment = bit_and m.workers 255;
-      work = m.works;
-      mug = m.mugs;
-      steal = m.steals;
-      successes = m.successes;
-      refusals = refusals;
-    }
+low_ten_of = ten_by (λ n. bit_and n 65535) (λ n. bit_and n 255)
 
 -- a small number is its low bits
 low_16 : {n : ℕ} → n ≤ 1024 → bit_and n 65535 ≡ n
